@@ -1,0 +1,6 @@
+pub mod Limits
+pub mod Kinds
+pub mod Nodes
+pub mod Paths
+pub mod Accepted
+pub mod Checks

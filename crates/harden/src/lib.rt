@@ -1,0 +1,9 @@
+// Leaders, ranks, signatures, and the hardened table.
+
+use graph::Header;
+
+// What hardening answers: the hardened graph's R, N and entry, or the refusal's number and place.
+pub enum Hardening {
+    Hardened(Header),
+    Refused(u32, usize),
+}
