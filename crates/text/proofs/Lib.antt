@@ -1,0 +1,3 @@
+-- Laws of text written upward, and of digits.
+pub mod Decimals
+pub mod Writing
