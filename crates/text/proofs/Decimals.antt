@@ -40,22 +40,27 @@ digits-more l m r at p q (suc more) n front h a b =
     let a′ : Wrote l at (digitsIn more (n / 10)) m p = rw e at a in
     rw (front-first more n h) (wrote-then l m r at p q (digitsIn more (n / 10)) ((48 + n % 10) ∷ []) a′ b)
 
-spaced-append : (xs ys : List ℕ) → spaced (xs ++ ys) ≡ spaced xs ++ spaced ys
+pub spaced-append : (xs ys : List ℕ) → spaced (xs ++ ys) ≡ spaced xs ++ spaced ys
 unfolding spaced
 spaced-append [] ys = refl
 spaced-append (x ∷ xs) ys =
     ap (λ (r : List ℕ). (32 ∷ decimal x) ++ r) (spaced-append xs ys) ∙ sym (append-assoc (32 ∷ decimal x) (spaced xs) (spaced ys))
 
-spaced-one : (w : ℕ) → spaced (w ∷ []) ≡ 32 ∷ decimal w
+-- a space, then the number
+pub spaced-one : (l m n : List ℕ) (at p q w : ℕ) → Wrote l at (32 ∷ []) m p → Wrote m p (decimal w) n q → Wrote l at (spaced (w ∷ [])) n q
 unfolding spaced
-spaced-one w = append-nil (32 ∷ decimal w)
+spaced-one l m n at p q w a b = rw (append-nil (32 ∷ decimal w)) (wrote-then l m n at p q (32 ∷ []) (decimal w) a b)
+
+-- words, then further words
+pub spaced-then : (l m n : List ℕ) (at p q : ℕ) (xs ys : List ℕ) → Wrote l at (spaced xs) m p → Wrote m p (spaced ys) n q → Wrote l at (spaced (xs ++ ys)) n q
+spaced-then l m n at p q xs ys a b = rw (spaced-append xs ys) (wrote-then l m n at p q (spaced xs) (spaced ys) a b)
 
 -- the words passed, then the next word
-pub spaced-more : (l m n : List ℕ) (at p q : ℕ) (ws : List ℕ) (i : ℕ) → i < length ws → Wrote l at (spaced (take i ws)) m p
-    → Wrote m p (32 ∷ decimal (getD ws i 0)) n q → Wrote l at (spaced (take (i + 1) ws)) n q
-spaced-more l m n at p q ws i h a b =
-    rw (add-one, take-suc ws i 0, spaced-append (take i ws) (getD ws i 0 ∷ []), spaced-one (getD ws i 0))
-    (wrote-then l m n at p q (spaced (take i ws)) (32 ∷ decimal (getD ws i 0)) a b)
+pub spaced-more : (l m n : List ℕ) (at p q : ℕ) (ws : List ℕ) (i w : ℕ) → i < length ws → Wrote l at (spaced (take i ws)) m p
+    → w ≡ getD ws i 0 → Wrote m p (spaced (w ∷ [])) n q → Wrote l at (spaced (take (i + 1) ws)) n q
+spaced-more l m n at p q ws i w h a e b =
+    let b′ : Wrote m p (spaced (getD ws i 0 ∷ [])) n q = rw e at b in
+    rw (add-one, take-suc ws i 0) (spaced-then l m n at p q (take i ws) (getD ws i 0 ∷ []) a b′)
 
 pub spaced-none : (l : List ℕ) (at place : ℕ) (ws : List ℕ) → place ≡ placeAfter (length l) at 0 → Wrote l at (spaced (take 0 ws)) l place
 unfolding spaced

@@ -110,3 +110,8 @@ wrote-length l m at p text w = ap length (w .buffer-is) ∙ length-put l at text
 -- the whole of a text, once no byte of it is left
 pub wrote-whole : (l m : List ℕ) (at p : ℕ) (text : List ℕ) (i : ℕ) → length text ≤ i → Wrote l at (take i text) m p → Wrote l at text m p
 wrote-whole l m at p text i h w = rw (take-all i text h) at w
+
+-- three texts, one after the other
+pub wrote-three : (k l m n : List ℕ) (at p q r : ℕ) (xs ys zs : List ℕ) → Wrote k at xs l p → Wrote l p ys m q → Wrote m q zs n r
+    → Wrote k at (xs ++ ys ++ zs) n r
+wrote-three k l m n at p q r xs ys zs a b c = wrote-then k m n at q r (xs ++ ys) zs (wrote-then k l m at p q xs ys a b) c

@@ -65,6 +65,20 @@ pub fn number(out: &mut [u8], at: usize, n: usize) -> usize
     digits(out, at, 19, n)
 }
 
+fn wide(word: u32) -> usize
+    ensures { λ r. ⌜ r ≡ word ⌝ }
+{
+    word as usize
+}
+
+// A space and a number in decimal, and the place after them.
+pub fn after_space(out: &mut [u8], at: usize, n: usize) -> usize
+    ensures { λ r. ⌜ Wrote (now (out .entry)) at (spacedText (n ∷ [])) (now (out .exit)) r ⌝ }
+{
+    let place = byte(out, at, b' ');
+    number(out, place, n)
+}
+
 // Words in decimal at a place, one space before each, and the place after them.
 pub fn spaced(out: &mut [u8], at: usize, words: &[u32]) -> usize
     ensures { λ r. ⌜ Wrote (now (out .entry)) at (spacedText (now (words .entry))) (now (out .exit)) r ⌝ }
@@ -72,18 +86,10 @@ pub fn spaced(out: &mut [u8], at: usize, words: &[u32]) -> usize
     let mut place = within(at, out.len());
     let mut i = 0;
     while i < words.len() {
-        place = after_space(out, place, words[i]);
+        place = after_space(out, place, wide(words[i]));
         i += 1;
     }
     place
-}
-
-// A space and a word in decimal.
-fn after_space(out: &mut [u8], at: usize, word: u32) -> usize
-    ensures { λ r. ⌜ Wrote (now (out .entry)) at (32 ∷ decimal word) (now (out .exit)) r ⌝ }
-{
-    let place = byte(out, at, b' ');
-    number(out, place, word as usize)
 }
 
 // The number that a text of one to ten digits stands for, where it is a 32-bit word.

@@ -1,6 +1,6 @@
 -- `text::after_space` meets its contract. Assumes nothing.
 use borrow.Author.Needs.{needs}
-use Rattle.text.proofs.Writing.{wrote-then}
+use Rattle.text.proofs.Decimals.{spaced-one}
 use Rattle.text.proofs.after_space.Statement.{statement}
 use Rattle.text.proofs.after_space.Tie as tie
 
@@ -16,7 +16,7 @@ same-length c = search needs
 returns : tie.Need-returns
 returns c =
     let d = c .before .before in
-    wrote-then _ _ _ _ _ _ _ _ (d .before .before .before .before .byte .ensures) (d .number .ensures)
+    spaced-one _ _ _ _ _ _ _ (d .before .before .before .before .byte .ensures) (d .number .ensures)
 
 pub after-space-spec : {M : Type 1} → statement M
 after-space-spec = tie.close (tie.spec byte-requires number-requires same-length returns)

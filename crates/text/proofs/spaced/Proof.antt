@@ -24,11 +24,14 @@ within-requires c κs = search needs
 loop-holds : tie.Need-loop-holds Inv-loop μ-loop
 loop-holds c = (search needs, spaced-none _ _ _ (now (c .before .before .before .args .words)) (c .within .ensures))
 
-mul-after-space : tie.Need-mul-after-space Inv-loop μ-loop
-mul-after-space c = search needs
+mul-wide : tie.Need-mul-wide Inv-loop μ-loop
+mul-wide c = search needs
 
-shared-slice-read-after-space : tie.Need-shared-slice-read-after-space Inv-loop μ-loop
-shared-slice-read-after-space c = search needs
+shared-slice-read-wide : tie.Need-shared-slice-read-wide Inv-loop μ-loop
+shared-slice-read-wide c = search needs
+
+wide-requires : tie.Need-wide-requires Inv-loop μ-loop
+wide-requires c κs = search needs
 
 after-space-requires : tie.Need-after-space-requires Inv-loop μ-loop
 after-space-requires c κs = search needs
@@ -42,9 +45,9 @@ loop-less c = omega arith
 loop-again : tie.Need-loop-again Inv-loop μ-loop
 loop-again c =
     let d = c .before .before in
-    let l = d .before .before .before .before .loop in
-    let i<n = d .before .before .before .loop-test .taken in
-    (omega arith, spaced-more _ _ _ _ _ _ _ _ i<n (l .inv .1) (d .after-space .ensures))
+    let w = d .before in
+    let t = w .before .before .before in
+    (omega arith, spaced-more _ _ _ _ _ _ _ _ _ (t .loop-test .taken) (t .before .loop .inv .1) (w .wide .ensures) (d .after-space .ensures))
 
 same-length : tie.Need-same-length Inv-loop μ-loop
 same-length c = wrote-length _ _ _ _ _ (c .before .loop .inv .1)
@@ -60,8 +63,9 @@ spaced-spec =
     μ-loop
     within-requires
     loop-holds
-    mul-after-space
-    shared-slice-read-after-space
+    mul-wide
+    shared-slice-read-wide
+    wide-requires
     after-space-requires
     add-i
     loop-less

@@ -1,0 +1,28 @@
+-- `desk::lines::named` meets its contract.
+-- Assumes nothing.
+use Rattle.text.proofs.Writing.{wrote-three}
+use borrow.Author.Needs.{needs}
+use Rattle.desk.proofs.lines.named.Statement.{statement}
+use Rattle.desk.proofs.lines.named.Tie as tie
+
+piece-requires : tie.Need-piece-requires
+piece-requires c κs = search needs
+
+after-space-requires : tie.Need-after-space-requires
+after-space-requires c κs = search needs
+
+byte-requires : tie.Need-byte-requires
+byte-requires c κs = search needs
+
+same-length : tie.Need-same-length
+same-length c = search needs
+
+returns : tie.Need-returns
+returns c =
+    let d = c .before .before in
+    let e = d .before .before .before .before in
+    wrote-three _ _ _ _ _ _ _ _ _ _ _ (e .before .before .before .before .piece .ensures) (e .after-space .ensures) (d .byte .ensures)
+
+pub named-spec : {M : Type 1} → statement M
+named-spec =
+    tie.close (tie.spec piece-requires after-space-requires byte-requires same-length returns)

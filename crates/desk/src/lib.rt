@@ -1,0 +1,2 @@
+// What the programs do between standard input and standard output.
+mod lines;
