@@ -1,2 +1,3 @@
 // What the programs do between standard input and standard output.
 mod lines;
+mod listing;

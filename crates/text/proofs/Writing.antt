@@ -2,7 +2,7 @@
 -- Assumes nothing.
 use mathlib.Core.Path.{_≡_, refl, sym, ap, _∙_}
 use Prim.Native.Nat.{ℕ, zero, suc, _+_, _≤_, _<_}
-use native.Mathlib.Nat.{add-zero, add-assoc}
+use native.Mathlib.Nat.{add-zero, add-assoc, le-refl}
 use native.Mathlib.Numerals.{add-one}
 use native.Mathlib.Decide.{decLe}
 use native.Mathlib.Omega.{arith}
@@ -115,3 +115,17 @@ wrote-whole l m at p text i h w = rw (take-all i text h) at w
 pub wrote-three : (k l m n : List ℕ) (at p q r : ℕ) (xs ys zs : List ℕ) → Wrote k at xs l p → Wrote l p ys m q → Wrote m q zs n r
     → Wrote k at (xs ++ ys ++ zs) n r
 wrote-three k l m n at p q r xs ys zs a b c = wrote-then k m n at q r (xs ++ ys) zs (wrote-then k l m at p q xs ys a b) c
+
+place-inside : (room at size : ℕ) → placeAfter room at size ≤ room
+place-inside room at size = by (decLe (at + size) room)
+  where
+    by : Dec (at + size ≤ room) → placeAfter room at size ≤ room
+    by (yes h) = rw (fits-place room at size h) h
+    by (no h) = let k : room ≤ at + size = omega arith in rw (full-place room at size k) (le-refl room)
+
+-- after a text, no further text
+pub wrote-none : (l m : List ℕ) (at p : ℕ) (xs : List ℕ) → Wrote l at xs m p → Wrote m p [] m p
+wrote-none l m at p xs w =
+    let inside : placeAfter (length l) at (length xs) ≤ length l = place-inside (length l) at (length xs) in
+    let h : p + 0 ≤ length m = omega (arith, w .place-is, wrote-length l m at p xs w) in
+    wrote-nil m p p (sym (fits-place (length m) p 0 h ∙ add-zero p))

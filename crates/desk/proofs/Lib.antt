@@ -1,0 +1,2 @@
+-- Laws of the texts.
+mod Rows
