@@ -1,2 +1,3 @@
--- Laws of the texts.
+-- Laws of the arguments and of the texts.
+mod Cells
 mod Rows

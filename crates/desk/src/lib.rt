@@ -1,3 +1,11 @@
-// What the programs do between standard input and standard output.
+// What the programs do between their arguments and standard input and what they print.
+mod arguments;
 mod lines;
 mod listing;
+
+// A program's first argument: the graph as it is read, or hardened first.
+pub enum Mode {
+    Plain,
+    Hardened,
+    Unknown,
+}

@@ -1,0 +1,52 @@
+-- The ways through an argument's cell, and through a comparison of two texts.
+-- Assumes nothing.
+use mathlib.Core.Path.{_≡_, refl, sym, ap, _∙_}
+use Prim.Native.Nat.{ℕ, zero, suc, _+_, _-_, _*_, _≤_, _<_}
+use native.Mathlib.Numerals.{add-one}
+use native.Mathlib.Nat.{add-sub-cancel-left}
+use native.Mathlib.Omega.{arith}
+use mathlib.Core.Bool.{Bool, true, false, _&&_}
+use lib.Dec.{eqb}
+use mathlib.Core.List.{List, [], _∷_}
+use lib.ListN.{length, getD, take, drop, drop-of-length-le}
+use lib.Seq.{drop-cons}
+use borrow.Author.Tests.{lt-leb, le-leb, lt-ltb, le-ltb, eq-eqb, ne-eqb}
+use Rattle.desk.specs.Arguments.{argument, sameText}
+
+module _ (cells : List ℕ) (i : ℕ) where
+  pub cell-missing : length cells < 16 * i + 16 → [] ≡ argument cells i
+  unfolding argument
+  cell-missing h = rw (lt-leb (16 * i + 16) (length cells) h)
+
+  pub cell-long : (size : ℕ) → 16 * i + 16 ≤ length cells → size ≡ getD cells (16 * i) 0 → 16 ≤ size → [] ≡ argument cells i
+  unfolding argument
+  cell-long size h e k =
+      let large : 16 ≤ getD cells (16 * i) 0 = omega arith in
+      rw (le-leb (16 * i + 16) (length cells) h, le-ltb (getD cells (16 * i) 0) 16 large)
+
+  pub cell-text : (size : ℕ) → 16 * i + 16 ≤ length cells → size ≡ getD cells (16 * i) 0 → size < 16
+      → take (16 * i + 1 + size - (16 * i + 1)) (drop (16 * i + 1) cells) ≡ argument cells i
+  unfolding argument
+  cell-text size h e k =
+      let short : getD cells (16 * i) 0 < 16 = omega arith in
+      rw (add-sub-cancel-left (16 * i + 1) size, le-leb (16 * i + 16) (length cells) h, lt-ltb (getD cells (16 * i) 0) 16 short, e)
+
+pub same-sized : (a b : List ℕ) → (length a ≡ length b → ⊥) → false ≡ sameText a b
+same-sized [] [] h = absurd (h refl)
+same-sized [] (y ∷ b) h = refl
+same-sized (x ∷ a) [] h = refl
+same-sized (x ∷ a) (y ∷ b) h = by (eqb x y) (same-sized a b (λ e. h (ap suc e)))
+  where
+    by : (t : Bool) → false ≡ sameText a b → false ≡ (t && sameText a b)
+    by true e = e
+    by false e = refl
+
+module _ (a b : List ℕ) (i : ℕ) (h : i < length a) (k : i < length b) where
+  pub same-not : (getD a i 0 ≡ getD b i 0 → ⊥) → false ≡ sameText (drop i a) (drop i b)
+  same-not e = rw (drop-cons a i 0 h, drop-cons b i 0 k, ne-eqb (getD a i 0) (getD b i 0) e)
+
+  pub same-more : getD a i 0 ≡ getD b i 0 → sameText (drop i a) (drop i b) ≡ sameText (drop (i + 1) a) (drop (i + 1) b)
+  same-more e = rw (add-one, drop-cons a i 0 h, drop-cons b i 0 k, eq-eqb (getD a i 0) (getD b i 0) e)
+
+pub same-whole : (a b : List ℕ) (i : ℕ) → length a ≤ i → length b ≤ i → true ≡ sameText (drop i a) (drop i b)
+same-whole a b i h k = rw (drop-of-length-le a h, drop-of-length-le b k)

@@ -1,0 +1,60 @@
+// The programs' arguments, out of their cells.
+ghost use Prim.Native.Nat.{_+_, _*_, _≤_};
+ghost use mathlib.Core.Path.{_≡_};
+ghost use lib.ListN.{length};
+ghost use Rattle.desk.specs.Arguments.{sameText, modeOf};
+ghost use Rattle.desk.specs.Arguments.{argument as argumentText};
+use crate::Mode;
+
+// The text of an argument.
+pub fn argument(cells: &[u8], i: usize) -> &[u8]
+    requires { ⌜ i ≤ 8192 ⌝ }
+    ensures { λ r. ⌜ now r ≡ argumentText (now (cells .entry)) i ⌝ }
+{
+    let at = 16 * i;
+    if cells.len() < at + 16 {
+        return &cells[..0];
+    }
+    let size = wide(cells[at]);
+    if 16 <= size {
+        return &cells[..0];
+    }
+    let start = at + 1;
+    &cells[start..start + size]
+}
+
+fn wide(b: u8) -> usize
+    ensures { λ r. ⌜ r ≡ b ⌝ }
+{
+    b as usize
+}
+
+// Whether two texts are the same.
+pub fn same(a: &[u8], b: &[u8]) -> bool
+    ensures { λ r. ⌜ r ≡ sameText (now (a .entry)) (now (b .entry)) ⌝ }
+{
+    if a.len() != b.len() {
+        return false;
+    }
+    let mut i = 0;
+    while i < a.len() {
+        if a[i] != b[i] {
+            return false;
+        }
+        i += 1;
+    }
+    true
+}
+
+// The mode that a text names.
+pub fn mode(text: &[u8]) -> Mode
+    ensures { λ r. ⌜ r ≡ modeOf (now (text .entry)) ⌝ }
+{
+    if same(text, b"plain") {
+        return Mode::Plain;
+    }
+    if same(text, b"hardened") {
+        return Mode::Hardened;
+    }
+    Mode::Unknown
+}
