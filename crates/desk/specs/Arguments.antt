@@ -9,6 +9,8 @@ use lib.Dec.{eqb, ltb, leb}
 use Rattle.text.specs.Decimals.{valueOf}
 use Rattle.bench.specs.declared.Fault.{Fault}
 use Rattle.bench.specs.declared.Fault.the-variants.{Undisturbed, Inverted}
+use Rattle.desk.specs.declared.Choice.{Choice}
+use Rattle.desk.specs.declared.Choice.the-variants.{Chosen, Other}
 use Rattle.desk.specs.declared.Mode.{Mode}
 use Rattle.desk.specs.declared.Mode.the-variants.{Plain, Hardened, Unknown}
 
@@ -49,5 +51,32 @@ inverted none = none
 inverted (some place) = some (Inverted place)
 
 -- `none`, or a place
+abbrev pub choiceOf : Choice → Option Fault
+choiceOf (Chosen fault) = some fault
+choiceOf Other = none
+
 unfoldable pub faultOf : List ℕ → Option Fault
 faultOf text = cond (sameText text noneWord) (some Undisturbed) (inverted (valueOf text))
+
+-- how many arguments the cells hold
+abbrev pub argumentCount : List ℕ → ℕ
+argumentCount cells = length cells / 16
+
+-- the word that an argument stands for, 0 where it is no number
+abbrev pub wordOf : Option ℕ → ℕ
+wordOf none = 0
+wordOf (some w) = w
+
+-- the words of `left` arguments from i upward
+unfoldable pub wordsFrom : List ℕ → ℕ → ℕ → List ℕ
+wordsFrom cells zero i = []
+wordsFrom cells (suc left) i = wordOf (valueOf (argument cells i)) ∷ wordsFrom cells left (i + 1)
+
+abbrev pub orElse : Option ℕ → Bool → Bool
+orElse none rest = false
+orElse (some w) rest = rest
+
+-- whether each of `left` arguments from i upward is a number
+unfoldable pub numbersFrom : List ℕ → ℕ → ℕ → Bool
+numbersFrom cells zero i = true
+numbersFrom cells (suc left) i = let rest = numbersFrom cells left (i + 1) in orElse (valueOf (argument cells i)) rest

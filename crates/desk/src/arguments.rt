@@ -2,9 +2,14 @@
 ghost use Prim.Native.Nat.{_+_, _*_, _≤_};
 ghost use mathlib.Core.Path.{_≡_};
 ghost use lib.ListN.{length};
-ghost use Rattle.desk.specs.Arguments.{sameText, modeOf};
+ghost use Rattle.desk.specs.Arguments.{sameText, modeOf, faultOf, choiceOf, wordOf, orElse, numbersFrom};
+ghost use mathlib.Core.Bool.{true};
+ghost use Rattle.text.specs.Decimals.{valueOf};
 ghost use Rattle.desk.specs.Arguments.{argument as argumentText};
+use crate::Choice;
 use crate::Mode;
+use bench::Fault;
+use text::Decimal;
 
 // The text of an argument.
 pub fn argument(cells: &[u8], i: usize) -> &[u8]
@@ -57,4 +62,40 @@ pub fn mode(text: &[u8]) -> Mode
         return Mode::Hardened;
     }
     Mode::Unknown
+}
+
+// The fault that a text names.
+pub fn fault(text: &[u8]) -> Choice
+    ensures { λ r. ⌜ choiceOf r ≡ faultOf (now (text .entry)) ⌝ }
+{
+    if same(text, b"none") {
+        return Choice::Chosen(Fault::Undisturbed);
+    }
+    let place = text::value(text);
+    let Decimal::Value(n) = place else {
+        return Choice::Other;
+    };
+    Choice::Chosen(Fault::Inverted(n))
+}
+
+// The word that an argument stands for, 0 where it is no number.
+pub fn word(cells: &[u8], i: usize) -> usize
+    requires { ⌜ i ≤ 8192 ⌝ }
+    ensures { λ r. ⌜ r ≡ wordOf (valueOf (argumentText (now (cells .entry)) i)) ⌝ }
+{
+    match text::value(argument(cells, i)) {
+        Decimal::Value(n) => n,
+        Decimal::Other => 0,
+    }
+}
+
+// Whether an argument is a number.
+pub fn is_number(cells: &[u8], i: usize) -> bool
+    requires { ⌜ i ≤ 8192 ⌝ }
+    ensures { λ r. ⌜ r ≡ orElse (valueOf (argumentText (now (cells .entry)) i)) true ⌝ }
+{
+    match text::value(argument(cells, i)) {
+        Decimal::Value(_) => true,
+        Decimal::Other => false,
+    }
 }
