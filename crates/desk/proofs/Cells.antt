@@ -8,10 +8,13 @@ use native.Mathlib.Omega.{arith}
 use mathlib.Core.Bool.{Bool, true, false, _&&_}
 use lib.Dec.{eqb}
 use mathlib.Core.List.{List, [], _∷_}
-use lib.ListN.{length, getD, take, drop, drop-of-length-le}
+use lib.ListN.{length, getD, take, drop, set, drop-of-length-le, length-append}
 use lib.Seq.{drop-cons}
 use borrow.Author.Tests.{lt-leb, le-leb, lt-ltb, le-ltb, eq-eqb, ne-eqb}
-use Rattle.desk.specs.Arguments.{argument, sameText}
+use Rattle.desk.specs.Arguments.{argument, sameText, isNumber, otherFrom, wordOf, wordsOf}
+use Rattle.text.specs.Decimals.{valueOf}
+use Rattle.words.specs.Buffer.{put}
+use Rattle.words.proofs.Puts.{put-nil, put-one, put-at, length-put}
 
 module _ (cells : List ℕ) (i : ℕ) where
   pub cell-missing : length cells < 16 * i + 16 → [] ≡ argument cells i
@@ -50,3 +53,44 @@ module _ (a b : List ℕ) (i : ℕ) (h : i < length a) (k : i < length b) where
 
 pub same-whole : (a b : List ℕ) (i : ℕ) → length a ≤ i → length b ≤ i → true ≡ sameText (drop i a) (drop i b)
 same-whole a b i h k = rw (drop-of-length-le a h, drop-of-length-le b k)
+
+-- the ways through a row of arguments, `left` of them from i upward
+module _ (cells : List ℕ) where
+  pub other-here : (i count : ℕ) (is : Bool) → is ≡ isNumber (valueOf (argument cells i)) → is ≡ false → i < count → i ≡ otherFrom cells (count - i) i
+  unfolding otherFrom
+  other-here i count is e f h =
+      let left : count - i ≡ suc (count - (i + 1)) = omega arith in
+      let this : isNumber (valueOf (argument cells i)) ≡ false = sym e ∙ f in
+      rw (left, this)
+
+  pub other-next : (i count : ℕ) (is : Bool) → is ≡ isNumber (valueOf (argument cells i)) → is ≡ true → i < count
+      → otherFrom cells (count - i) i ≡ otherFrom cells (count - (i + 1)) (i + 1)
+  unfolding otherFrom
+  other-next i count is e f h =
+      let left : count - i ≡ suc (count - (i + 1)) = omega arith in
+      let this : isNumber (valueOf (argument cells i)) ≡ true = sym e ∙ f in
+      rw (left, this)
+
+  pub other-none : (i count : ℕ) → count ≤ i → i ≡ otherFrom cells (count - i) i
+  unfolding otherFrom
+  other-none i count h = let left : count - i ≡ 0 = omega arith in rw left
+
+  words-length : (from k : ℕ) → length (wordsOf cells from k) ≡ k
+  unfolding wordsOf
+  words-length from zero = refl
+  words-length from (suc k) =
+      length-append (wordsOf cells from k) (wordOf (valueOf (argument cells (from + k))) ∷ [])
+      ∙ ap (λ (n : ℕ). n + 1) (words-length from k) ∙ add-one k
+
+  pub words-none : (l : List ℕ) (from : ℕ) → l ≡ put l 0 (wordsOf cells from 0)
+  unfolding wordsOf
+  words-none l from = sym (put-nil l 0)
+
+  pub words-more : (l m : List ℕ) (from k w : ℕ) → m ≡ put l 0 (wordsOf cells from k) → w ≡ wordOf (valueOf (argument cells (from + k)))
+      → set m k w ≡ put l 0 (wordsOf cells from (k + 1))
+  unfolding wordsOf
+  words-more l m from k w e f =
+      let there : k ≡ 0 + length (wordsOf cells from k) = omega (arith, words-length from k) in
+      rw (add-one, e, f)
+      (sym (put-one (put l 0 (wordsOf cells from k)) k (wordOf (valueOf (argument cells (from + k)))))
+      ∙ put-at l 0 k (wordsOf cells from k) (wordOf (valueOf (argument cells (from + k))) ∷ []) there)

@@ -2,7 +2,7 @@
 -- Assumes nothing.
 use Prim.Native.Nat.{ℕ, zero, suc, _+_, _*_, _/_}
 use mathlib.Core.Bool.{Bool, true, false, cond, _&&_}
-use mathlib.Core.List.{List, [], _∷_}
+use mathlib.Core.List.{List, [], _∷_, _++_}
 use mathlib.Core.Option.{Option, none, some}
 use lib.ListN.{length, getD, take, drop}
 use lib.Dec.{eqb, ltb, leb}
@@ -67,16 +67,16 @@ abbrev pub wordOf : Option ℕ → ℕ
 wordOf none = 0
 wordOf (some w) = w
 
--- the words of `left` arguments from i upward
-unfoldable pub wordsFrom : List ℕ → ℕ → ℕ → List ℕ
-wordsFrom cells zero i = []
-wordsFrom cells (suc left) i = wordOf (valueOf (argument cells i)) ∷ wordsFrom cells left (i + 1)
+-- the words of k arguments, the first at `from`
+unfoldable pub wordsOf : List ℕ → ℕ → ℕ → List ℕ
+wordsOf cells from zero = []
+wordsOf cells from (suc k) = wordsOf cells from k ++ (wordOf (valueOf (argument cells (from + k))) ∷ [])
 
-abbrev pub orElse : Option ℕ → Bool → Bool
-orElse none rest = false
-orElse (some w) rest = rest
+abbrev pub isNumber : Option ℕ → Bool
+isNumber none = false
+isNumber (some w) = true
 
--- whether each of `left` arguments from i upward is a number
-unfoldable pub numbersFrom : List ℕ → ℕ → ℕ → Bool
-numbersFrom cells zero i = true
-numbersFrom cells (suc left) i = let rest = numbersFrom cells left (i + 1) in orElse (valueOf (argument cells i)) rest
+-- the first of `left` arguments from i upward that is no number, or the argument after them
+unfoldable pub otherFrom : List ℕ → ℕ → ℕ → ℕ
+otherFrom cells zero i = i
+otherFrom cells (suc left) i = let rest = otherFrom cells left (i + 1) in cond (isNumber (valueOf (argument cells i))) rest i

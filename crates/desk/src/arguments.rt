@@ -1,10 +1,10 @@
 // The programs' arguments, out of their cells.
-ghost use Prim.Native.Nat.{_+_, _*_, _≤_};
+ghost use Prim.Native.Nat.{_+_, _-_, _*_, _≤_};
 ghost use mathlib.Core.Path.{_≡_};
 ghost use lib.ListN.{length};
-ghost use Rattle.desk.specs.Arguments.{sameText, modeOf, faultOf, choiceOf, wordOf, orElse, numbersFrom};
-ghost use mathlib.Core.Bool.{true};
+ghost use Rattle.desk.specs.Arguments.{sameText, modeOf, faultOf, choiceOf, wordOf, wordsOf, isNumber, otherFrom};
 ghost use Rattle.text.specs.Decimals.{valueOf};
+ghost use Rattle.words.specs.Buffer.{put};
 ghost use Rattle.desk.specs.Arguments.{argument as argumentText};
 use crate::Choice;
 use crate::Mode;
@@ -75,11 +75,12 @@ pub fn fault(text: &[u8]) -> Choice
     let Decimal::Value(n) = place else {
         return Choice::Other;
     };
-    Choice::Chosen(Fault::Inverted(n))
+    let branch = n as usize;
+    Choice::Chosen(Fault::Inverted(branch))
 }
 
 // The word that an argument stands for, 0 where it is no number.
-pub fn word(cells: &[u8], i: usize) -> usize
+fn word(cells: &[u8], i: usize) -> u32
     requires { ⌜ i ≤ 8192 ⌝ }
     ensures { λ r. ⌜ r ≡ wordOf (valueOf (argumentText (now (cells .entry)) i)) ⌝ }
 {
@@ -90,12 +91,39 @@ pub fn word(cells: &[u8], i: usize) -> usize
 }
 
 // Whether an argument is a number.
-pub fn is_number(cells: &[u8], i: usize) -> bool
+fn is_number(cells: &[u8], i: usize) -> bool
     requires { ⌜ i ≤ 8192 ⌝ }
-    ensures { λ r. ⌜ r ≡ orElse (valueOf (argumentText (now (cells .entry)) i)) true ⌝ }
+    ensures { λ r. ⌜ r ≡ isNumber (valueOf (argumentText (now (cells .entry)) i)) ⌝ }
 {
     match text::value(argument(cells, i)) {
         Decimal::Value(_) => true,
         Decimal::Other => false,
+    }
+}
+
+// The first argument from `from` up to `count` that is no number, or count.
+pub fn other(cells: &[u8], from: usize, count: usize) -> usize
+    requires { ⌜ (from ≤ count) × (count ≤ 8192) ⌝ }
+    ensures { λ r. ⌜ r ≡ otherFrom (now (cells .entry)) (count - from) from ⌝ }
+{
+    let mut i = from;
+    while i < count {
+        if !is_number(cells, i) {
+            return i;
+        }
+        i += 1;
+    }
+    i
+}
+
+// The words of `count` arguments, the first at `from`, over the first of the inputs.
+pub fn fill(cells: &[u8], from: usize, count: usize, inputs: &mut [u32])
+    requires { ⌜ (from + count ≤ 8192) × (count ≤ length (now inputs)) ⌝ }
+    ensures { λ _. ⌜ now (inputs .exit) ≡ put (now (inputs .entry)) 0 (wordsOf (now (cells .entry)) from count) ⌝ }
+{
+    let mut k = 0;
+    while k < count {
+        inputs[k] = word(cells, from + k);
+        k += 1;
     }
 }

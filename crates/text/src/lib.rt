@@ -7,7 +7,7 @@ ghost use Rattle.text.specs.Places.{Wrote, placeAfter};
 
 // A text read as a decimal number.
 pub enum Decimal {
-    Value(usize),
+    Value(u32),
     Other,
 }
 
@@ -118,5 +118,6 @@ pub fn value(text: &[u8]) -> Decimal
         }
         i += 1;
     }
-    Decimal::Value(n)
+    let word = n as u32;
+    Decimal::Value(word)
 }

@@ -69,6 +69,9 @@ loop-again c =
           ∙ value-more _ _ _ (d .loop-test .taken) (c .before .before .if3 .left) (c .before .if4 .left) (c .if5 .left),
     )
 
+cast-word : tie.Need-cast-word Inv-loop μ-loop
+cast-word c = search needs
+
 returns-6 : tie.Need-returns-6 Inv-loop μ-loop
 returns-6 c = value-whole _ _ _ (c .loop-test .left) ∙ sym (c .before .loop .inv .2)
 
@@ -91,4 +94,5 @@ value-spec =
     add-i
     loop-less
     loop-again
+    cast-word
     returns-6)

@@ -29,6 +29,9 @@ returns-2 : tie.Need-returns-2
 unfolding faultOf
 returns-2 c = rw (sym (c .before .before .before .before .same .ensures), c .before .before .before .if1 .left, sym (c .before .before .value .ensures), c .enum-told .given .1)
 
+cast-branch : tie.Need-cast-branch
+cast-branch c = search needs
+
 returns-3 : tie.Need-returns-3
 unfolding faultOf
 returns-3 c = rw (sym (c .before .before .before .before .before .same .ensures), c .before .before .before .before .if1 .left, sym (c .before .before .before .value .ensures), c .before .place .given .1)
@@ -44,4 +47,5 @@ fault-spec =
     enum-known-place
     enum-told
     returns-2
+    cast-branch
     returns-3)
