@@ -1,6 +1,6 @@
 -- How the programs take their arguments: in cells of sixteen bytes, one a cell, a length below sixteen and then the text.
 -- Assumes nothing.
-use Prim.Native.Nat.{ℕ, zero, suc, _+_, _*_, _/_}
+use Prim.Native.Nat.{ℕ, zero, suc, _+_, _-_, _*_, _/_}
 use mathlib.Core.Bool.{Bool, true, false, cond, _&&_}
 use mathlib.Core.List.{List, [], _∷_, _++_}
 use mathlib.Core.Option.{Option, none, some}
@@ -11,6 +11,11 @@ use Rattle.bench.specs.declared.Fault.{Fault}
 use Rattle.bench.specs.declared.Fault.the-variants.{Undisturbed, Inverted}
 use Rattle.desk.specs.declared.Choice.{Choice}
 use Rattle.desk.specs.declared.Choice.the-variants.{Chosen, Other}
+use Rattle.desk.specs.declared.Settings.{Settings}
+use Rattle.desk.specs.declared.Settings.the-variants.{Ready, Wrong}
+use Rattle.desk.specs.declared.Wanted.{Wanted}
+use Rattle.desk.specs.declared.Words.{Words}
+use Rattle.desk.specs.declared.Words.the-variants.{All, Bad}
 use Rattle.desk.specs.declared.Mode.{Mode}
 use Rattle.desk.specs.declared.Mode.the-variants.{Plain, Hardened, Unknown}
 
@@ -28,10 +33,11 @@ sameText [] (y ∷ ys) = false
 sameText (x ∷ xs) [] = false
 sameText (x ∷ xs) (y ∷ ys) = eqb x y && sameText xs ys
 
--- plain, hardened
+-- plain
 abbrev pub plainWord : List ℕ
 plainWord = 112 ∷ 108 ∷ 97 ∷ 105 ∷ 110 ∷ []
 
+-- hardened
 abbrev pub hardenedWord : List ℕ
 hardenedWord = 104 ∷ 97 ∷ 114 ∷ 100 ∷ 101 ∷ 110 ∷ 101 ∷ 100 ∷ []
 
@@ -42,21 +48,37 @@ noneWord = 110 ∷ 111 ∷ 110 ∷ 101 ∷ []
 unfoldable pub modeOf : List ℕ → Mode
 modeOf text = cond (sameText text plainWord) Plain (cond (sameText text hardenedWord) Hardened Unknown)
 
-abbrev pub upTo : ℕ → Option ℕ → Option ℕ
-upTo most none = none
-upTo most (some n) = cond (leb n most) (some n) none
+-- the most event words, and the most input words
+abbrev pub mostRoom : ℕ
+mostRoom = 16384
 
-abbrev pub inverted : Option ℕ → Option Fault
-inverted none = none
-inverted (some place) = some (Inverted place)
+abbrev pub mostWords : ℕ
+mostWords = 4096
+
+-- BUDGET and ROOM
+abbrev pub numbersOf : Bool → Option ℕ → Option ℕ → Settings
+numbersOf hardened none room = Wrong Wanted.Budget
+numbersOf hardened (some budget) none = Wrong Wanted.Room
+numbersOf hardened (some budget) (some room) = cond (leb room mostRoom) (Ready hardened budget room) (Wrong Wanted.Room)
+
+-- MODE, BUDGET and ROOM
+abbrev pub settingsBy : Mode → Option ℕ → Option ℕ → Settings
+settingsBy Plain budget room = numbersOf false budget room
+settingsBy Hardened budget room = numbersOf true budget room
+settingsBy Unknown budget room = Wrong Wanted.Mode
+
+-- the first three arguments
+unfoldable pub settingsOf : List ℕ → Settings
+settingsOf cells = settingsBy (modeOf (argument cells 0)) (valueOf (argument cells 1)) (valueOf (argument cells 2))
+
+-- a place
+abbrev pub placeOf : Option ℕ → Choice
+placeOf none = Other
+placeOf (some place) = Chosen (Inverted place)
 
 -- `none`, or a place
-abbrev pub choiceOf : Choice → Option Fault
-choiceOf (Chosen fault) = some fault
-choiceOf Other = none
-
-unfoldable pub faultOf : List ℕ → Option Fault
-faultOf text = cond (sameText text noneWord) (some Undisturbed) (inverted (valueOf text))
+unfoldable pub faultOf : List ℕ → Choice
+faultOf text = cond (sameText text noneWord) (Chosen Undisturbed) (placeOf (valueOf text))
 
 -- how many arguments the cells hold
 abbrev pub argumentCount : List ℕ → ℕ
@@ -80,3 +102,12 @@ isNumber (some w) = true
 unfoldable pub otherFrom : List ℕ → ℕ → ℕ → ℕ
 otherFrom cells zero i = i
 otherFrom cells (suc left) i = let rest = otherFrom cells left (i + 1) in cond (isNumber (valueOf (argument cells i))) rest i
+
+-- the arguments from `from` on, each a number, and not too many
+unfoldable pub wordsIn : List ℕ → ℕ → Words
+wordsIn cells from =
+    let count = argumentCount cells in
+    let first = otherFrom cells (count - from) from in
+    cond (leb count (from + mostWords))
+    (cond (leb count first) (All (count - from)) (Bad (Wanted.Word (first + 1))))
+    (Bad (Wanted.End (from + mostWords + 1)))

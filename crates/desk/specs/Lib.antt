@@ -1,3 +1,4 @@
 pub mod Arguments
 pub mod Lines
 pub mod Listing
+pub mod Programs

@@ -7,6 +7,7 @@ use Rattle.bench.specs.declared.Outcome.{Outcome}
 use Rattle.bench.specs.declared.Outcome.the-variants.{Returned, Caught, Spent, Full}
 use Rattle.bench.specs.declared.Score.{Score}
 use Rattle.bench.specs.declared.State.{State}
+use Rattle.desk.specs.declared.Wanted.{Wanted}
 
 -- a line: its text, closed by byte 10
 abbrev pub line : List ℕ → List ℕ
@@ -47,3 +48,44 @@ runText outcome s events =
 unfoldable pub scoreLine : Score → List ℕ
 scoreLine s =
     line (decimal (s .positions) ++ spaced (s .caught ∷ s .late ∷ s .harmless ∷ s .changed ∷ s .unended ∷ []))
+
+-- argument
+abbrev pub argumentWord : List ℕ
+argumentWord = 97 ∷ 114 ∷ 103 ∷ 117 ∷ 109 ∷ 101 ∷ 110 ∷ 116 ∷ []
+
+-- expected MODE, plain or hardened
+abbrev pub wantedMode : List ℕ
+wantedMode = 58 ∷ 32 ∷ 101 ∷ 120 ∷ 112 ∷ 101 ∷ 99 ∷ 116 ∷ 101 ∷ 100 ∷ 32 ∷ 77 ∷ 79 ∷ 68 ∷ 69 ∷ 44 ∷ 32 ∷ 112 ∷ 108 ∷ 97 ∷ 105 ∷ 110 ∷ 32 ∷ 111 ∷ 114 ∷ 32 ∷ 104 ∷ 97 ∷ 114 ∷ 100 ∷ 101 ∷ 110 ∷ 101 ∷ 100 ∷ []
+
+-- expected BUDGET, a number up to 4294967295
+abbrev pub wantedBudget : List ℕ
+wantedBudget = 58 ∷ 32 ∷ 101 ∷ 120 ∷ 112 ∷ 101 ∷ 99 ∷ 116 ∷ 101 ∷ 100 ∷ 32 ∷ 66 ∷ 85 ∷ 68 ∷ 71 ∷ 69 ∷ 84 ∷ 44 ∷ 32 ∷ 97 ∷ 32 ∷ 110 ∷ 117 ∷ 109 ∷ 98 ∷ 101 ∷ 114 ∷ 32 ∷ 117 ∷ 112 ∷ 32 ∷ 116 ∷ 111 ∷ 32 ∷ 52 ∷ 50 ∷ 57 ∷ 52 ∷ 57 ∷ 54 ∷ 55 ∷ 50 ∷ 57 ∷ 53 ∷ []
+
+-- expected ROOM, a number up to 16384
+abbrev pub wantedRoom : List ℕ
+wantedRoom = 58 ∷ 32 ∷ 101 ∷ 120 ∷ 112 ∷ 101 ∷ 99 ∷ 116 ∷ 101 ∷ 100 ∷ 32 ∷ 82 ∷ 79 ∷ 79 ∷ 77 ∷ 44 ∷ 32 ∷ 97 ∷ 32 ∷ 110 ∷ 117 ∷ 109 ∷ 98 ∷ 101 ∷ 114 ∷ 32 ∷ 117 ∷ 112 ∷ 32 ∷ 116 ∷ 111 ∷ 32 ∷ 49 ∷ 54 ∷ 51 ∷ 56 ∷ 52 ∷ []
+
+-- expected FAULT, none or a number up to 4294967295
+abbrev pub wantedFault : List ℕ
+wantedFault = 58 ∷ 32 ∷ 101 ∷ 120 ∷ 112 ∷ 101 ∷ 99 ∷ 116 ∷ 101 ∷ 100 ∷ 32 ∷ 70 ∷ 65 ∷ 85 ∷ 76 ∷ 84 ∷ 44 ∷ 32 ∷ 110 ∷ 111 ∷ 110 ∷ 101 ∷ 32 ∷ 111 ∷ 114 ∷ 32 ∷ 97 ∷ 32 ∷ 110 ∷ 117 ∷ 109 ∷ 98 ∷ 101 ∷ 114 ∷ 32 ∷ 117 ∷ 112 ∷ 32 ∷ 116 ∷ 111 ∷ 32 ∷ 52 ∷ 50 ∷ 57 ∷ 52 ∷ 57 ∷ 54 ∷ 55 ∷ 50 ∷ 57 ∷ 53 ∷ []
+
+-- expected WORD, a number up to 4294967295
+abbrev pub wantedWord : List ℕ
+wantedWord = 58 ∷ 32 ∷ 101 ∷ 120 ∷ 112 ∷ 101 ∷ 99 ∷ 116 ∷ 101 ∷ 100 ∷ 32 ∷ 87 ∷ 79 ∷ 82 ∷ 68 ∷ 44 ∷ 32 ∷ 97 ∷ 32 ∷ 110 ∷ 117 ∷ 109 ∷ 98 ∷ 101 ∷ 114 ∷ 32 ∷ 117 ∷ 112 ∷ 32 ∷ 116 ∷ 111 ∷ 32 ∷ 52 ∷ 50 ∷ 57 ∷ 52 ∷ 57 ∷ 54 ∷ 55 ∷ 50 ∷ 57 ∷ 53 ∷ []
+
+-- expected no more than 4096 words
+abbrev pub wantedEnd : List ℕ
+wantedEnd = 58 ∷ 32 ∷ 101 ∷ 120 ∷ 112 ∷ 101 ∷ 99 ∷ 116 ∷ 101 ∷ 100 ∷ 32 ∷ 110 ∷ 111 ∷ 32 ∷ 109 ∷ 111 ∷ 114 ∷ 101 ∷ 32 ∷ 116 ∷ 104 ∷ 97 ∷ 110 ∷ 32 ∷ 52 ∷ 48 ∷ 57 ∷ 54 ∷ 32 ∷ 119 ∷ 111 ∷ 114 ∷ 100 ∷ 115 ∷ []
+
+-- which argument, and what was expected
+abbrev pub complaintOf : ℕ → List ℕ → List ℕ
+complaintOf i expected = line (argumentWord ++ spaced (i ∷ []) ++ expected)
+
+-- the one line that says what was wanted in the place of an argument
+abbrev pub complaintLine : Wanted → List ℕ
+complaintLine Wanted.Mode = complaintOf 1 wantedMode
+complaintLine Wanted.Budget = complaintOf 2 wantedBudget
+complaintLine Wanted.Room = complaintOf 3 wantedRoom
+complaintLine Wanted.Fault = complaintOf 4 wantedFault
+complaintLine (Wanted.Word i) = complaintOf i wantedWord
+complaintLine (Wanted.End i) = complaintOf i wantedEnd

@@ -2,7 +2,7 @@
 ghost use Prim.Native.Nat.{_+_, _-_, _*_, _≤_};
 ghost use mathlib.Core.Path.{_≡_};
 ghost use lib.ListN.{length};
-ghost use Rattle.desk.specs.Arguments.{sameText, modeOf, faultOf, choiceOf, wordOf, wordsOf, isNumber, otherFrom};
+ghost use Rattle.desk.specs.Arguments.{sameText, modeOf, faultOf, wordOf, wordsOf, isNumber, otherFrom};
 ghost use Rattle.text.specs.Decimals.{valueOf};
 ghost use Rattle.words.specs.Buffer.{put};
 ghost use Rattle.desk.specs.Arguments.{argument as argumentText};
@@ -66,7 +66,7 @@ pub fn mode(text: &[u8]) -> Mode
 
 // The fault that a text names.
 pub fn fault(text: &[u8]) -> Choice
-    ensures { λ r. ⌜ choiceOf r ≡ faultOf (now (text .entry)) ⌝ }
+    ensures { λ r. ⌜ r ≡ faultOf (now (text .entry)) ⌝ }
 {
     if same(text, b"none") {
         return Choice::Chosen(Fault::Undisturbed);
