@@ -2,12 +2,15 @@
 ghost use Prim.Native.Nat.{_+_, _-_, _*_, _≤_};
 ghost use mathlib.Core.Path.{_≡_};
 ghost use lib.ListN.{length};
-ghost use Rattle.desk.specs.Arguments.{sameText, modeOf, faultOf, wordOf, wordsOf, isNumber, otherFrom};
+ghost use Rattle.desk.specs.Arguments.{sameText, modeOf, faultOf, settingsOf, numbersOf, wordsIn, wordOf, wordsOf, isNumber, otherFrom};
 ghost use Rattle.text.specs.Decimals.{valueOf};
 ghost use Rattle.words.specs.Buffer.{put};
 ghost use Rattle.desk.specs.Arguments.{argument as argumentText};
 use crate::Choice;
 use crate::Mode;
+use crate::Settings;
+use crate::Wanted;
+use crate::Words;
 use bench::Fault;
 use text::Decimal;
 
@@ -126,4 +129,59 @@ pub fn fill(cells: &[u8], from: usize, count: usize, inputs: &mut [u32])
         inputs[k] = word(cells, from + k);
         k += 1;
     }
+}
+
+// The first three arguments.
+pub fn settings(cells: &[u8]) -> Settings
+    ensures { λ r. ⌜ r ≡ settingsOf (now (cells .entry)) ⌝ }
+{
+    match mode(argument(cells, 0)) {
+        Mode::Plain => numbers(cells, false),
+        Mode::Hardened => numbers(cells, true),
+        Mode::Unknown => Settings::Wrong(Wanted::Mode),
+    }
+}
+
+// The second and the third argument.
+fn numbers(cells: &[u8], hardened: bool) -> Settings
+    ensures { λ r. ⌜ r ≡ numbersOf hardened (valueOf (argumentText (now (cells .entry)) 1)) (valueOf (argumentText (now (cells .entry)) 2)) ⌝ }
+{
+    let second = text::value(argument(cells, 1));
+    let Decimal::Value(budget) = second else {
+        return Settings::Wrong(Wanted::Budget);
+    };
+    let third = text::value(argument(cells, 2));
+    let Decimal::Value(room) = third else {
+        return Settings::Wrong(Wanted::Room);
+    };
+    if 16384 < room {
+        return Settings::Wrong(Wanted::Room);
+    }
+    let most = budget as usize;
+    let size = room as usize;
+    Settings::Ready(hardened, most, size)
+}
+
+// How many words the arguments from `from` on are.
+pub fn words(cells: &[u8], from: usize) -> Words
+    requires { ⌜ from ≤ 4 ⌝ }
+    ensures { λ r. ⌜ r ≡ wordsIn (now (cells .entry)) from ⌝ }
+{
+    let count = cells.len() / 16;
+    if from + 4096 < count {
+        return Words::Bad(Wanted::End(from + 4097));
+    }
+    let left = above(count, from);
+    let first = other(cells, from, from + left);
+    if first < count {
+        return Words::Bad(Wanted::Word(first + 1));
+    }
+    Words::All(left)
+}
+
+// How much a number is above another, 0 where it is not.
+fn above(m: usize, n: usize) -> usize
+    ensures { λ r. ⌜ r ≡ m - n ⌝ }
+{
+    if n <= m { m - n } else { 0 }
 }

@@ -3,7 +3,8 @@ ghost use mathlib.Core.Path.{_≡_};
 ghost use mathlib.Core.List.{[], _∷_, _++_};
 ghost use Rattle.text.specs.Decimals.{spaced};
 ghost use Rattle.text.specs.Places.{Wrote};
-ghost use Rattle.desk.specs.Lines.{line, refusalLine, outcomeText, countsText, runText, scoreLine};
+ghost use Rattle.desk.specs.Lines.{line, refusalLine, outcomeText, countsText, runText, scoreLine, complaintOf, complaintLine};
+use crate::Wanted;
 use bench::Outcome;
 use bench::Score;
 use bench::State;
@@ -96,4 +97,28 @@ pub fn ran(out: &mut [u8], end: Outcome, s: State, events: &[u32]) -> usize
     let third = listed(out, second, b"events", events);
     let registers = s.registers;
     listed(out, third, b"registers", &registers)
+}
+
+// The line that says which argument is wrong and what was expected.
+fn expected(out: &mut [u8], argument: usize, wanted: &[u8]) -> usize
+    ensures { λ r. ⌜ Wrote (now (out .entry)) 0 (complaintOf argument (now (wanted .entry))) (now (out .exit)) r ⌝ }
+{
+    let first = piece(out, 0, b"argument");
+    let second = after_space(out, first, argument);
+    let end = piece(out, second, wanted);
+    byte(out, end, b'\n')
+}
+
+// What was wanted in the place of an argument.
+pub fn complaint(out: &mut [u8], wanted: Wanted) -> usize
+    ensures { λ r. ⌜ Wrote (now (out .entry)) 0 (complaintLine wanted) (now (out .exit)) r ⌝ }
+{
+    match wanted {
+        Wanted::Mode => expected(out, 1, b": expected MODE, plain or hardened"),
+        Wanted::Budget => expected(out, 2, b": expected BUDGET, a number up to 4294967295"),
+        Wanted::Room => expected(out, 3, b": expected ROOM, a number up to 16384"),
+        Wanted::Fault => expected(out, 4, b": expected FAULT, none or a number up to 4294967295"),
+        Wanted::Word(i) => expected(out, i, b": expected WORD, a number up to 4294967295"),
+        Wanted::End(i) => expected(out, i, b": expected no more than 4096 words"),
+    }
 }
