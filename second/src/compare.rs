@@ -81,7 +81,11 @@ impl Tally {
             self.inversions,
             self.hardened_scores
         );
-        println!("{} passed, {} failed", self.compared() - self.failed, self.failed);
+        println!(
+            "{} passed, {} failed",
+            self.compared() - self.failed,
+            self.failed
+        );
     }
 }
 
@@ -107,9 +111,10 @@ impl<'a> Trial<'a> {
 
     /// Compares every answer to the case, then tries demand 3 on it.
     pub fn make(&mut self) {
-        self.tally.graphs = 1;
-        self.listing();
         let case = self.case;
+        self.tally.graphs = 1;
+        self.tally.mix.graph(&case.file);
+        self.listing();
         for line in &case.runs {
             self.answer("hrun", line, hrun(line, &case.file));
         }
@@ -165,7 +170,13 @@ impl<'a> Trial<'a> {
         }
     }
 
-    fn differs(&mut self, program: &str, line: &Line, said: &Said, expected: &Result<String, String>) {
+    fn differs(
+        &mut self,
+        program: &str,
+        line: &Line,
+        said: &Said,
+        expected: &Result<String, String>,
+    ) {
         let mut message = match expected {
             Ok(text) => format!(
                 "first difference in line {}\n{}{}",
@@ -189,7 +200,12 @@ impl<'a> Trial<'a> {
     pub fn fail(&mut self, program: &str, line: &Line, message: &str) {
         self.tally.failed += 1;
         let (seed, index) = (self.case.seed, self.case.index);
-        let hex: String = self.case.file.iter().map(|byte| format!("{byte:02x}")).collect();
+        let hex: String = self
+            .case
+            .file
+            .iter()
+            .map(|byte| format!("{byte:02x}"))
+            .collect();
         let again = format!(
             "second case --seed {seed} --index {index} --hlist {} --hrun {} --hscore {}",
             self.programs.hlist.display(),
@@ -209,7 +225,13 @@ pub fn spoken(line: &Line) -> String {
     let plain = |word: &String| !word.is_empty() && word.bytes().all(|b| b.is_ascii_alphanumeric());
     let words: Vec<String> = line
         .iter()
-        .map(|word| if plain(word) { word.clone() } else { format!("'{word}'") })
+        .map(|word| {
+            if plain(word) {
+                word.clone()
+            } else {
+                format!("'{word}'")
+            }
+        })
         .collect();
     words.join(" ")
 }

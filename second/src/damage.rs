@@ -39,8 +39,25 @@ fn other_number(dice: &mut Dice, numbers: &[u32]) -> Vec<u32> {
     };
     let (registers, nodes) = (numbers[0], numbers[1]);
     let limits = [
-        0, 5, 6, 7, 8, 9, 62, 63, 64, 65, 255, 256, 257, 2050, 2051,
-        registers.wrapping_sub(1), registers, nodes.wrapping_sub(1), nodes,
+        0,
+        5,
+        6,
+        7,
+        8,
+        9,
+        62,
+        63,
+        64,
+        65,
+        255,
+        256,
+        257,
+        2050,
+        2051,
+        registers.wrapping_sub(1),
+        registers,
+        nodes.wrapping_sub(1),
+        nodes,
     ];
     numbers[place as usize] = match dice.below(5) {
         0 => dice.pick(&EDGES),

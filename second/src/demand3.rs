@@ -215,7 +215,10 @@ impl Attempt<'_, '_> {
         self.trial.tally.inversions += 1;
         let there = before.branches == at.place && after.branches == at.place + 1;
         let kept = if at.one_target {
-            self.trial.tally.mix.add("demand 3: inversions of one target");
+            self.trial
+                .tally
+                .mix
+                .add("demand 3: inversions of one target");
             let undisturbed = self.line("hardened", at.steps + further, "none");
             self.observe(&undisturbed).as_ref() == Some(&inverted)
         } else {
@@ -274,10 +277,12 @@ impl Attempt<'_, '_> {
         let observed = Observed::parse(&said.output);
         if observed.is_none() {
             self.trial.tally.follows += 1;
-            let message = format!("demand 3: expected the lines of a run, found\n{}", said.output);
+            let message = format!(
+                "demand 3: expected the lines of a run, found\n{}",
+                said.output
+            );
             self.trial.fail("hrun", line, &message);
         }
         observed
     }
 }
-

@@ -76,7 +76,10 @@ impl Dice {
         match self.below(10) {
             0..=2 => self.pick(&EDGES),
             3..=6 => self.below(12),
-            7 => self.pick(&EDGES).wrapping_add(self.between(0, 4)).wrapping_sub(2),
+            7 => self
+                .pick(&EDGES)
+                .wrapping_add(self.between(0, 4))
+                .wrapping_sub(2),
             _ => self.next() as u32,
         }
     }

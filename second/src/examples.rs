@@ -26,7 +26,10 @@ pub fn check(directory: &Path, program: Option<&Path>) -> Result<bool, String> {
     for graph in graphs {
         let made = assemble(&text(&directory.join(format!("{graph}.graph")))?)?;
         let kept = bytes(&directory.join(format!("{graph}.bin")))?;
-        checks.say(made == kept, &format!("{graph}.bin is what {graph}.graph makes"));
+        checks.say(
+            made == kept,
+            &format!("{graph}.bin is what {graph}.graph makes"),
+        );
     }
     let starter = Starter::new();
     for row in &rows {
@@ -40,7 +43,10 @@ pub fn check(directory: &Path, program: Option<&Path>) -> Result<bool, String> {
         if let Some(program) = program {
             let said = starter.start(program, &line, &file);
             let said = said.map_err(|error| format!("{}: {error}", program.display()))?;
-            checks.say(said.output == format!("{}\n", row.score), &format!("hscore: {name}"));
+            checks.say(
+                said.output == format!("{}\n", row.score),
+                &format!("hscore: {name}"),
+            );
         }
     }
     println!("{} passed, {} failed", checks.passed, checks.failed);
@@ -62,7 +68,9 @@ impl Checks {
 }
 
 fn rows(table: &str) -> Result<Vec<Row>, String> {
-    let lines = table.lines().filter(|line| !line.starts_with('#') && !line.is_empty());
+    let lines = table
+        .lines()
+        .filter(|line| !line.starts_with('#') && !line.is_empty());
     lines
         .map(|line| {
             let words: Vec<&str> = line.split_whitespace().collect();

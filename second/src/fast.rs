@@ -110,7 +110,11 @@ fn step(
             state.node = row[5];
         }
         kind @ (BRANCH | BRANCH_WORD) => {
-            let right = if kind == BRANCH { registers[at(3)] } else { row[3] };
+            let right = if kind == BRANCH {
+                registers[at(3)]
+            } else {
+                row[3]
+            };
             let test = holds(row[1], registers[at(2)], right);
             state.node = if test != invert { row[4] } else { row[5] };
             state.branches += 1;
@@ -182,9 +186,7 @@ impl Reference<'_> {
         let class = match outcome {
             Outcome::Caught if self.events[shared..].starts_with(fresh) => &mut score.caught,
             Outcome::Caught => &mut score.late,
-            Outcome::Returned(_)
-                if outcome == self.outcome && fresh == &self.events[shared..] =>
-            {
+            Outcome::Returned(_) if outcome == self.outcome && fresh == &self.events[shared..] => {
                 &mut score.harmless
             }
             Outcome::Returned(_) | Outcome::Full => &mut score.changed,
@@ -265,7 +267,14 @@ pub fn campaign_rerun(
     let mut score = Score::default();
     for place in 0..found.branches {
         let mut state = State::at(graph.entry);
-        let outcome = go(found.rows, found.input, second, &mut state, found.budget, place);
+        let outcome = go(
+            found.rows,
+            found.input,
+            second,
+            &mut state,
+            found.budget,
+            place,
+        );
         found.count(&mut score, outcome, &second[..state.words], 0);
     }
     second.fill(0);

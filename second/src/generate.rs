@@ -87,6 +87,13 @@ fn facts((graph, table): &Held, input: &[u32]) -> Facts {
     }
 }
 
+/// Weights of the budgets: exact, one less, one more, 0, 1, below, the limit, above.
+const RUN_BUDGETS: [u32; 8] = [16, 8, 6, 3, 3, 10, 14, 40];
+const SCORE_BUDGETS: [u32; 8] = [16, 3, 6, 1, 1, 2, 12, 60];
+/// Weights of the rooms: exact, one less, two less, one more, up to 3, odd, the limit, above.
+const RUN_ROOMS: [u32; 8] = [12, 5, 4, 8, 12, 6, 5, 48];
+const SCORE_ROOMS: [u32; 8] = [16, 3, 2, 8, 4, 5, 6, 60];
+
 /// Chooses the command lines for a file from what its runs show.
 struct Writer<'a> {
     dice: &'a mut Dice,
@@ -111,7 +118,11 @@ impl Writer<'_> {
     }
 
     fn scores(&mut self) -> Vec<Line> {
-        let count = if self.plain.is_some() { 2 } else { 1 };
+        // What does not return is scored once, to be refused.
+        let count = match self.plain {
+            Some(facts) if facts.returns => 3,
+            _ => 1,
+        };
         let mut lines: Vec<Line> = (0..count).map(|_| self.score()).collect();
         if self.dice.percent(8) {
             let line = self.score();
@@ -120,8 +131,10 @@ impl Writer<'_> {
         lines
     }
 
+    /// What is no source is seldom hardened: it would only be refused again.
     fn mode(&mut self) -> (&'static str, Option<Facts>) {
-        if self.dice.percent(45) {
+        let plain = if self.hardened.is_some() { 45 } else { 85 };
+        if self.dice.percent(plain) {
             ("plain", self.plain)
         } else {
             ("hardened", self.hardened)
@@ -131,8 +144,8 @@ impl Writer<'_> {
     fn run(&mut self) -> Line {
         let (mode, facts) = self.mode();
         let facts = facts.unwrap_or(self.some_facts());
-        let budget = self.budget(&facts);
-        let room = self.room(&facts);
+        let budget = self.budget(&facts, RUN_BUDGETS);
+        let room = self.room(&facts, RUN_ROOMS);
         let fault = self.fault(&facts);
         self.line(mode, &[budget, room], Some(fault))
     }
@@ -143,7 +156,7 @@ impl Writer<'_> {
         let Some(facts) = facts.filter(|facts| facts.branches <= 24) else {
             return Vec::new();
         };
-        let room = self.room(&facts);
+        let room = self.room(&facts, SCORE_ROOMS);
         let budget = (facts.steps + self.dice.below(40)).min(LAST_BUDGET);
         (0..=facts.branches)
             .map(|place| self.line(mode, &[budget, room], Some(place.to_string())))
@@ -153,9 +166,9 @@ impl Writer<'_> {
     fn score(&mut self) -> Line {
         let (mode, facts) = self.mode();
         let facts = facts.unwrap_or(self.some_facts());
-        let wanted = self.budget(&facts);
+        let wanted = self.budget(&facts, SCORE_BUDGETS);
         let budget = self.affordable(mode, &facts, wanted);
-        let room = self.room(&facts);
+        let room = self.room(&facts, SCORE_ROOMS);
         self.line(mode, &[budget, room], None)
     }
 
@@ -192,24 +205,28 @@ impl Writer<'_> {
         }
     }
 
-    fn budget(&mut self, facts: &Facts) -> u32 {
+    fn budget(&mut self, facts: &Facts, weights: [u32; 8]) -> u32 {
         let steps = facts.steps;
-        let drawn = match self.dice.weighted(&[18, 9, 7, 3, 3, 10, 14, 36]) {
+        let drawn = match self.dice.weighted(&weights) {
             0 => steps,
             1 => steps.saturating_sub(1),
             2 => steps + 1,
             3 => 0,
             4 => 1,
             5 => self.dice.below(steps + 1),
-            6 => return self.dice.pick(&[100_000, 100_000, 100_000, 100_001, u32::MAX]),
+            6 => {
+                return self
+                    .dice
+                    .pick(&[100_000, 100_000, 100_000, 100_001, u32::MAX])
+            }
             _ => steps + self.dice.below(300),
         };
         drawn.min(LAST_BUDGET)
     }
 
-    fn room(&mut self, facts: &Facts) -> u32 {
+    fn room(&mut self, facts: &Facts, weights: [u32; 8]) -> u32 {
         let words = facts.words;
-        let drawn = match self.dice.weighted(&[12, 5, 4, 8, 12, 6, 5, 48]) {
+        let drawn = match self.dice.weighted(&weights) {
             0 => words,
             1 => words.saturating_sub(1),
             2 => words.saturating_sub(2),
@@ -230,7 +247,9 @@ impl Writer<'_> {
             2 => branches,
             3 => branches.saturating_sub(1),
             4 => 0,
-            _ => self.dice.pick(&[u32::MAX, u32::MAX - 1, 100_000, branches + 1]),
+            _ => self
+                .dice
+                .pick(&[u32::MAX, u32::MAX - 1, 100_000, branches + 1]),
         }
         .to_string()
     }
@@ -249,7 +268,16 @@ impl Writer<'_> {
     /// Makes one argument a bad one, or takes some away.
     fn spoil(&mut self, mut line: Line, fixed: usize) -> Line {
         let bad_numbers = [
-            "", "-1", "+5", "4294967296", "1x", "99999999999", "0x10", "1.5", "none ", "٣",
+            "",
+            "-1",
+            "+5",
+            "4294967296",
+            "1x",
+            "99999999999",
+            "0x10",
+            "1.5",
+            "none ",
+            "٣",
         ];
         if self.dice.below(4) == 0 {
             line.truncate(self.dice.below(fixed as u32) as usize);

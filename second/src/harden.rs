@@ -102,14 +102,8 @@ impl<'a> Hardening<'a> {
     fn check(&mut self, target: u32) {
         let catch = self.graph.nodes + 1;
         let signature = self.signature(target);
-        self.rows.push([
-            BRANCH_WORD,
-            NOT_EQUAL,
-            self.gsr,
-            signature,
-            catch,
-            target,
-        ]);
+        self.rows
+            .push([BRANCH_WORD, NOT_EQUAL, self.gsr, signature, catch, target]);
     }
 
     fn signature(&self, node: u32) -> u32 {

@@ -63,7 +63,9 @@ fn show_file() -> Result<bool, String> {
 }
 
 fn compare_programs(rest: &[String]) -> Result<bool, String> {
-    let known = ["hlist", "hrun", "hscore", "cases", "seed", "seconds", "jobs"];
+    let known = [
+        "hlist", "hrun", "hscore", "cases", "seed", "seconds", "jobs",
+    ];
     let options = Options::parse(rest, &known)?;
     Ok(compare(&compare::Options {
         programs: options.programs()?,

@@ -1,5 +1,6 @@
 //! What a comparison was made of: how often each kind of answer occurred.
 
+use crate::programs::{read, FILE_BYTES};
 use std::collections::BTreeMap;
 
 /// Counts by program and by what it answered.
@@ -7,7 +8,12 @@ use std::collections::BTreeMap;
 pub struct Mix(BTreeMap<String, u64>);
 
 const CLASSES: [&str; 6] = [
-    "positions", "caught", "late", "harmless", "changed", "unended",
+    "positions",
+    "caught",
+    "late",
+    "harmless",
+    "changed",
+    "unended",
 ];
 
 impl Mix {
@@ -42,6 +48,27 @@ impl Mix {
             }
             _ => self.add("hlist: listed"),
         }
+    }
+
+    /// Takes up a graph file by the limits it touches.
+    pub fn graph(&mut self, file: &[u8]) {
+        if file.len() > FILE_BYTES {
+            self.add("graphs: longer than the first bytes");
+        }
+        let Ok((graph, _)) = read(file) else {
+            return self.add("graphs: refused by the reader");
+        };
+        self.add(match graph.nodes {
+            ..=255 => "graphs: N up to 255",
+            256 => "graphs: N 256",
+            257..=2049 => "graphs: N 257 to 2049",
+            _ => "graphs: N 2050",
+        });
+        self.add(match graph.registers {
+            ..=61 => "graphs: R up to 61",
+            62 => "graphs: R 62",
+            _ => "graphs: R 63 or 64",
+        });
     }
 
     pub fn print(&self) {

@@ -41,7 +41,8 @@ impl Options {
     }
 
     pub fn required_number(&self, name: &str) -> Result<u64, String> {
-        self.number(name)?.ok_or(format!("expected --{name} NUMBER"))
+        self.number(name)?
+            .ok_or(format!("expected --{name} NUMBER"))
     }
 
     pub fn programs(&self) -> Result<Programs, String> {

@@ -61,12 +61,7 @@ pub struct Machine<'a> {
 }
 
 impl<'a> Machine<'a> {
-    pub fn new(
-        graph: &Graph,
-        table: &'a [u32],
-        input: &'a [u32],
-        buffer: &'a mut [u32],
-    ) -> Self {
+    pub fn new(graph: &Graph, table: &'a [u32], input: &'a [u32], buffer: &'a mut [u32]) -> Self {
         Machine {
             table,
             input,

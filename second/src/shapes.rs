@@ -58,7 +58,8 @@ impl Draft {
 
     fn renumber_alive(&mut self, alive: &[bool], new: &[u32]) {
         let mut alive = alive.iter();
-        self.rows.retain(|_| *alive.next().expect("a mark for each row"));
+        self.rows
+            .retain(|_| *alive.next().expect("a mark for each row"));
         self.renumber(new);
     }
 
@@ -188,7 +189,10 @@ impl Builder<'_> {
             return next;
         }
         let nested = if depth > 0 { 1 } else { 0 };
-        match self.dice.weighted(&[18, 26, 14, 14, 14, 12 * nested, 4 * nested, 2]) {
+        match self
+            .dice
+            .weighted(&[18, 26, 14, 14, 14, 12 * nested, 4 * nested, 2])
+        {
             0 => {
                 let (d, k) = (self.free(), self.dice.word());
                 self.push([CONST, d, k, next, 0, 0])
@@ -237,12 +241,12 @@ impl Builder<'_> {
 
     /// One side of a branch: a block, nothing, or a node made before.
     fn arm(&mut self, depth: u32, next: u32) -> u32 {
-        match self.dice.below(10) {
-            0..=5 => {
+        match self.dice.below(30) {
+            0..=17 => {
                 let statements = self.dice.between(1, 4);
                 self.block(statements, depth.saturating_sub(1), next)
             }
-            6 => self.dice.below(self.rows.len() as u32 - 1),
+            18 => self.dice.below(self.rows.len() as u32 - 1),
             _ => next,
         }
     }
@@ -306,7 +310,9 @@ fn tangle(dice: &mut Dice) -> Draft {
     };
     let catches = u32::from(dice.percent(15));
     for node in 0..nodes {
-        draft.rows.push(random_row(dice, registers, nodes, node, catches));
+        draft
+            .rows
+            .push(random_row(dice, registers, nodes, node, catches));
     }
     if dice.percent(80) {
         draft.prune();
@@ -408,16 +414,20 @@ fn dead_pair(dice: &mut Dice) -> Draft {
     draft
 }
 
-/// A program with catch nodes, of which no source may have any.
+/// A program with catch nodes, of which no source may have any; one is
+/// reached by way of an event.
 fn catching(dice: &mut Dice) -> Draft {
     let nodes = dice.between(8, 40) as usize;
     let mut draft = structured(dice, 10, nodes);
     let catch = draft.rows.len() as u32;
     draft.rows.push([CATCH, 0, 0, 0, 0, 0]);
-    let share = dice.pick(&[20, 50, 90]);
+    draft
+        .rows
+        .push([OUT, dice.below(4), dice.below(10), catch, 0, 0]);
+    let share = dice.pick(&[8, 15, 30, 90]);
     for row in &mut draft.rows {
         if is_branch(row) && dice.percent(share) {
-            row[4 + dice.below(2) as usize] = catch;
+            row[4 + dice.below(2) as usize] = catch + dice.below(2);
         }
     }
     draft

@@ -158,7 +158,9 @@ impl Assembly {
         for found in words {
             let name = name(Some(found), "a register name")?;
             if self.registers.contains(&name) {
-                return Err(format!("expected a new register name, found `{name}` again"));
+                return Err(format!(
+                    "expected a new register name, found `{name}` again"
+                ));
             }
             self.registers.push(name);
         }
@@ -273,7 +275,9 @@ impl Assembly {
         match self.labels.get(label) {
             Some(&node) if node < self.drafts.len() => Ok(node as u32),
             Some(_) => Err(format!("expected a node after the label `{label}`")),
-            None => Err(format!("expected a label that stands somewhere, found `{label}`")),
+            None => Err(format!(
+                "expected a label that stands somewhere, found `{label}`"
+            )),
         }
     }
 }
@@ -295,7 +299,10 @@ fn word(found: Option<&str>) -> Result<u32, Error> {
         Some(_) => None,
         None => crate::arguments::decimal(found),
     };
-    value.ok_or(format!("expected a word up to {}, found `{found}`", u32::MAX))
+    value.ok_or(format!(
+        "expected a word up to {}, found `{found}`",
+        u32::MAX
+    ))
 }
 
 fn port(found: Option<&str>) -> Result<u32, Error> {
@@ -312,7 +319,10 @@ fn one_of(names: &[&str], found: Option<&str>) -> Result<u32, Error> {
     let found = found.unwrap_or("");
     match names.iter().position(|name| *name == found) {
         Some(index) => Ok(index as u32),
-        None => Err(format!("expected one of {}, found `{found}`", names.join(" "))),
+        None => Err(format!(
+            "expected one of {}, found `{found}`",
+            names.join(" ")
+        )),
     }
 }
 
@@ -347,10 +357,16 @@ fn statement(row: &Row) -> String {
         [CONST, d, k, ..] => format!("const r{d} {k}"),
         [OP, o, d, a, b, _] => format!("op {} r{d} r{a} r{b}", OPERATORS[o as usize]),
         [BRANCH, c, a, b, then, other] => {
-            format!("if r{a} {} r{b} goto n{then} else n{other}", TESTS[c as usize])
+            format!(
+                "if r{a} {} r{b} goto n{then} else n{other}",
+                TESTS[c as usize]
+            )
         }
         [BRANCH_WORD, c, a, k, then, other] => {
-            format!("if r{a} {} {k} goto n{then} else n{other}", TESTS[c as usize])
+            format!(
+                "if r{a} {} {k} goto n{then} else n{other}",
+                TESTS[c as usize]
+            )
         }
         [IN, d, ..] => format!("in r{d}"),
         [OUT, port, a, ..] => format!("out {port} r{a}"),

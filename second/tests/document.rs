@@ -185,12 +185,27 @@ fn small_byte_vectors() {
     assert_eq!(hlist(&[0x80, 0x80, 0x80, 0x80, 0x10]), "refused 2 0\n");
     assert_eq!(hlist(&[0x80, 0x80, 0x80, 0x80, 0x8f]), "refused 2 0\n");
     assert_eq!(hlist(&[0xff, 0xff, 0xff, 0xff, 0x0f]), "refused 3 0\n");
-    assert_eq!(file::number(&[0xff, 0xff, 0xff, 0xff, 0x0f], 0), Ok((u32::MAX, 5)));
+    assert_eq!(
+        file::number(&[0xff, 0xff, 0xff, 0xff, 0x0f], 0),
+        Ok((u32::MAX, 5))
+    );
 }
 
 #[test]
 fn every_edge_of_length_comes_back() {
-    let edges = [0, 1, 127, 128, 16383, 16384, 2097151, 2097152, 268435455, 268435456, u32::MAX];
+    let edges = [
+        0,
+        1,
+        127,
+        128,
+        16383,
+        16384,
+        2097151,
+        2097152,
+        268435455,
+        268435456,
+        u32::MAX,
+    ];
     for value in edges {
         let bytes = file::encode(&[value]);
         assert_eq!(file::number(&bytes, 0), Ok((value, bytes.len())));
@@ -298,7 +313,14 @@ fn arguments_are_decimal() {
     for bad in ["", "+1", "-1", " 1", "1a", "4294967296", "00000000007", "٣"] {
         assert_eq!(decimal(bad), None, "{bad:?}");
     }
-    for bad in ["", "odd 1 1 none", "plain", "plain 1", "plain 1 16385 none", "plain 1 1 no"] {
+    for bad in [
+        "",
+        "odd 1 1 none",
+        "plain",
+        "plain 1",
+        "plain 1 16385 none",
+        "plain 1 1 no",
+    ] {
         let message = hrun(&words(bad), GRAPH_A).unwrap_err();
         assert_eq!(message.lines().count(), 1);
     }
