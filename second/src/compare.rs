@@ -35,6 +35,7 @@ pub struct Tally {
     pub inversions: u64,
     pub hardened_scores: u64,
     pub failed: u64,
+    pub hung: bool,
     pub mix: Mix,
 }
 
@@ -58,6 +59,7 @@ impl Tally {
         self.inversions += other.inversions;
         self.hardened_scores += other.hardened_scores;
         self.failed += other.failed;
+        self.hung |= other.hung;
         self.mix.join(&other.mix);
     }
 
@@ -152,15 +154,22 @@ impl<'a> Trial<'a> {
         }
     }
 
-    /// Starts a program; one that cannot be started fails the case.
+    /// Starts a program; one that cannot be started fails the case, and
+    /// after one that hung the case is left.
     pub fn said(&mut self, program: &str, line: &Line) -> Option<Said> {
+        if self.tally.hung {
+            return None;
+        }
         let path = match program {
             "hlist" => &self.programs.hlist,
             "hrun" => &self.programs.hrun,
             _ => &self.programs.hscore,
         };
         match self.starter.start(path, line, &self.case.file) {
-            Ok(said) => Some(said),
+            Ok(said) => {
+                self.tally.hung = said.ended;
+                Some(said)
+            }
             Err(error) => {
                 let message = format!("{} does not start: {error}", path.display());
                 self.tally.listings += 1;
@@ -266,7 +275,12 @@ pub fn compare(options: &Options) -> bool {
     });
     let total = total.into_inner().expect("no worker failed");
     if total.graphs < options.cases {
-        println!("stopped by the clock after {} cases", total.graphs);
+        let why = if total.hung {
+            "a program that hung"
+        } else {
+            "the clock"
+        };
+        println!("stopped by {why} after {} cases", total.graphs);
     }
     total.print(began.elapsed().as_secs_f64());
     total.failed == 0
@@ -279,7 +293,8 @@ fn work(options: &Options, began: Instant, next: &AtomicU64, total: &Mutex<Tally
     loop {
         let index = next.fetch_add(1, Ordering::Relaxed);
         let late = limit.is_some_and(|limit| began.elapsed() >= limit);
-        if index >= options.cases || late {
+        let hung = total.lock().expect("no worker fails in here").hung;
+        if index >= options.cases || late || hung {
             return;
         }
         let case = case(options.seed, index);
