@@ -29,12 +29,12 @@ impl Dice {
     pub fn new(seed: u64, index: u64) -> Self {
         let mut dice = Dice(seed ^ 0x5e_c0_4d);
         // Neighbouring indices must not give neighbouring streams.
-        let base = dice.next();
+        let base = dice.draw();
         dice.0 = base ^ index.wrapping_mul(0xd134_2543_de82_ef95);
         dice
     }
 
-    pub fn next(&mut self) -> u64 {
+    pub fn draw(&mut self) -> u64 {
         self.0 = self.0.wrapping_add(0x9e37_79b9_7f4a_7c15);
         let mut mixed = self.0;
         mixed = (mixed ^ (mixed >> 30)).wrapping_mul(0xbf58_476d_1ce4_e5b9);
@@ -44,7 +44,7 @@ impl Dice {
 
     /// A number from 0 to `end` - 1; `end` is at least 1.
     pub fn below(&mut self, end: u32) -> u32 {
-        ((self.next() >> 32) * u64::from(end) >> 32) as u32
+        (((self.draw() >> 32) * u64::from(end)) >> 32) as u32
     }
 
     pub fn between(&mut self, first: u32, last: u32) -> u32 {
@@ -80,7 +80,7 @@ impl Dice {
                 .pick(&EDGES)
                 .wrapping_add(self.between(0, 4))
                 .wrapping_sub(2),
-            _ => self.next() as u32,
+            _ => self.draw() as u32,
         }
     }
 

@@ -10,10 +10,19 @@ use crate::table::check_runnable;
 /// A place that no run within the last budget reaches.
 const NO_FAULT: u32 = u32::MAX;
 
-/// Everything a step changes but the event buffer; `words` counts event words.
+/// Everything a step changes but the event buffer.
 #[derive(Clone, Copy)]
 struct State {
-    registers: [u32; 64],
+    registers: Registers,
+    at: At,
+}
+
+type Registers = [u32; 64];
+
+/// Where a run stands; apart from the registers, so that a loop can hold it
+/// in the processor's own. `words` counts event words.
+#[derive(Clone, Copy)]
+struct At {
     node: u32,
     steps: u32,
     branches: u32,
@@ -22,28 +31,36 @@ struct State {
 }
 
 impl State {
-    fn at(entry: u32) -> Self {
+    fn start(entry: u32) -> Self {
         State {
             registers: [0; 64],
-            node: entry,
-            steps: 0,
-            branches: 0,
-            reads: 0,
-            words: 0,
+            at: At {
+                node: entry,
+                steps: 0,
+                branches: 0,
+                reads: 0,
+                words: 0,
+            },
         }
     }
 
     fn answer(&self, outcome: Outcome) -> Answer {
         Answer {
             outcome,
-            node: self.node,
+            node: self.at.node,
             registers: self.registers,
-            steps: self.steps,
-            branches: self.branches,
-            reads: self.reads,
-            events: (self.words / 2) as u32,
+            steps: self.at.steps,
+            branches: self.at.branches,
+            reads: self.at.reads,
+            events: (self.at.words / 2) as u32,
         }
     }
+}
+
+/// A checked table names no register above 63; the mask tells the compiler.
+#[inline(always)]
+fn index(register: u32) -> usize {
+    (register & 63) as usize
 }
 
 /// The same answer as `run::run`, refusals too.
@@ -56,7 +73,7 @@ pub fn run_fast(
     fault: Option<u32>,
 ) -> Result<Answer, Refusal> {
     let rows = checked(graph, table, budget)?;
-    let mut state = State::at(graph.entry);
+    let mut state = State::start(graph.entry);
     let fault = fault.unwrap_or(NO_FAULT);
     let outcome = go(rows, input, buffer, &mut state, budget, fault);
     Ok(state.answer(outcome))
@@ -79,69 +96,74 @@ fn go(
     budget: u32,
     fault: u32,
 ) -> Outcome {
-    while state.steps < budget {
-        let invert = state.branches == fault;
-        if let Some(outcome) = step(rows, input, buffer, state, invert) {
-            return outcome;
-        }
+    let registers = &mut state.registers;
+    let mut at = state.at;
+    let mut ended = None;
+    while ended.is_none() && at.steps < budget {
+        let invert = at.branches == fault;
+        ended = step(rows, input, buffer, registers, &mut at, invert);
     }
-    Outcome::Spent
+    state.at = at;
+    ended.unwrap_or(Outcome::Spent)
 }
 
-/// One step, or Full; registers are masked since a checked table stays below 64.
+/// One step, or Full before it.
 #[inline(always)]
 fn step(
     rows: &[Row],
     input: &[u32],
     buffer: &mut [u32],
-    state: &mut State,
+    registers: &mut Registers,
+    at: &mut At,
     invert: bool,
 ) -> Option<Outcome> {
-    let row = &rows[state.node as usize];
-    let at = |word: usize| (row[word] & 63) as usize;
-    let registers = &mut state.registers;
+    let row = &rows[at.node as usize];
     match row[0] {
         CONST => {
-            registers[at(1)] = row[2];
-            state.node = row[3];
+            registers[index(row[1])] = row[2];
+            at.node = row[3];
         }
         OP => {
-            registers[at(2)] = operate(row[1], registers[at(3)], registers[at(4)]);
-            state.node = row[5];
+            let (a, b) = (registers[index(row[3])], registers[index(row[4])]);
+            registers[index(row[2])] = operate(row[1], a, b);
+            at.node = row[5];
         }
-        kind @ (BRANCH | BRANCH_WORD) => {
-            let right = if kind == BRANCH {
-                registers[at(3)]
-            } else {
-                row[3]
-            };
-            let test = holds(row[1], registers[at(2)], right);
-            state.node = if test != invert { row[4] } else { row[5] };
-            state.branches += 1;
-        }
+        BRANCH => branch(row, registers, registers[index(row[3])], at, invert),
+        BRANCH_WORD => branch(row, registers, row[3], at, invert),
         IN => {
-            registers[at(1)] = input.get(state.reads as usize).copied().unwrap_or(0);
-            state.reads += 1;
-            state.node = row[2];
+            registers[index(row[1])] = input.get(at.reads as usize).copied().unwrap_or(0);
+            at.reads += 1;
+            at.node = row[2];
         }
         OUT => {
-            let Some(event) = buffer.get_mut(state.words..state.words + 2) else {
+            let event = buffer.get_mut(at.words..at.words + 2);
+            let Some(event) = event else {
                 return Some(Outcome::Full);
             };
-            event.copy_from_slice(&[row[1], registers[at(2)]]);
-            state.words += 2;
-            state.node = row[3];
+            event.copy_from_slice(&[row[1], registers[index(row[2])]]);
+            at.words += 2;
+            at.node = row[3];
         }
-        kind => {
-            state.steps += 1;
-            return Some(match kind {
-                RET => Outcome::Returned(registers[at(1)]),
-                _ => Outcome::Caught,
-            });
-        }
+        kind => return Some(end(kind, registers[index(row[1])], at)),
     }
-    state.steps += 1;
+    at.steps += 1;
     None
+}
+
+#[inline(always)]
+fn branch(row: &Row, registers: &Registers, right: u32, at: &mut At, invert: bool) {
+    let test = holds(row[1], registers[index(row[2])], right);
+    at.node = if test != invert { row[4] } else { row[5] };
+    at.branches += 1;
+}
+
+#[inline(always)]
+fn end(kind: u32, value: u32, at: &mut At) -> Outcome {
+    at.steps += 1;
+    match kind {
+        RET => Outcome::Returned(value),
+        _ => Outcome::Caught,
+    }
 }
 
 #[inline(always)]
@@ -211,19 +233,19 @@ fn reference<'a>(
     if first.len() != second.len() {
         return refuse(14, 0);
     }
-    let mut state = State::at(graph.entry);
+    let mut state = State::start(graph.entry);
     let mut trial = vec![0; first.len()];
     let outcome = go(rows, input, &mut trial, &mut state, budget, NO_FAULT);
     if !matches!(outcome, Outcome::Returned(_)) {
         return refuse(13, 0);
     }
-    first[..state.words].copy_from_slice(&trial[..state.words]);
+    first[..state.at.words].copy_from_slice(&trial[..state.at.words]);
     Ok(Reference {
         rows,
         input,
-        events: &first[..state.words],
+        events: &first[..state.at.words],
         outcome,
-        branches: state.branches,
+        branches: state.at.branches,
         budget,
     })
 }
@@ -239,16 +261,18 @@ pub fn campaign_forked(
 ) -> Result<Score, Refusal> {
     let found = reference(graph, table, input, first, second, budget)?;
     let mut score = Score::default();
-    let mut walk = State::at(graph.entry);
-    while walk.branches < found.branches {
-        if is_branch(&found.rows[walk.node as usize]) {
+    let mut walk = State::start(graph.entry);
+    while walk.at.branches < found.branches {
+        if is_branch(&found.rows[walk.at.node as usize]) {
             let mut fork = walk;
-            step(found.rows, input, second, &mut fork, true);
-            let outcome = go(found.rows, input, second, &mut fork, budget, NO_FAULT);
-            found.count(&mut score, outcome, &second[..fork.words], walk.words);
+            let place = fork.at.branches;
+            let outcome = go(found.rows, input, second, &mut fork, budget, place);
+            let written = &second[..fork.at.words];
+            found.count(&mut score, outcome, written, walk.at.words);
         }
-        // The walk's own events go where the next fork expects them.
-        step(found.rows, input, second, &mut walk, false);
+        // No fork looks at events before its own, so the walk may write over them.
+        let State { registers, at } = &mut walk;
+        step(found.rows, input, second, registers, at, false);
     }
     second.fill(0);
     Ok(score)
@@ -266,7 +290,7 @@ pub fn campaign_rerun(
     let found = reference(graph, table, input, first, second, budget)?;
     let mut score = Score::default();
     for place in 0..found.branches {
-        let mut state = State::at(graph.entry);
+        let mut state = State::start(graph.entry);
         let outcome = go(
             found.rows,
             found.input,
@@ -275,7 +299,7 @@ pub fn campaign_rerun(
             found.budget,
             place,
         );
-        found.count(&mut score, outcome, &second[..state.words], 0);
+        found.count(&mut score, outcome, &second[..state.at.words], 0);
     }
     second.fill(0);
     Ok(score)

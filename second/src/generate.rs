@@ -56,11 +56,12 @@ pub fn case(seed: u64, index: u64) -> Case {
 
 fn graph_file(dice: &mut Dice) -> Vec<u8> {
     let draft = any_shape(dice);
-    let numbers = file::numbers(&draft.graph(), &draft.rows.concat());
-    if dice.percent(16) {
-        damaged(dice, &numbers)
+    // At the longest file what follows it matters most.
+    let share = if draft.rows.len() < 2050 { 18 } else { 60 };
+    if dice.percent(share) {
+        damaged(dice, &draft)
     } else {
-        file::encode(&numbers)
+        file::write(&draft.graph(), &draft.rows.concat())
     }
 }
 

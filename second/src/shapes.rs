@@ -84,7 +84,7 @@ fn target_words(kind: u32) -> Vec<usize> {
 
 /// A graph of one of the shapes.
 pub fn any_shape(dice: &mut Dice) -> Draft {
-    let mut draft = match dice.weighted(&[44, 18, 8, 5, 4, 4, 10, 4, 3]) {
+    let mut draft = match dice.weighted(&[43, 18, 8, 5, 4, 4, 10, 4, 3, 1]) {
         0 => structured_any(dice),
         1 => tangle(dice),
         2 => tiny(dice),
@@ -93,7 +93,8 @@ pub fn any_shape(dice: &mut Dice) -> Draft {
         5 => dead_pair(dice),
         6 => catching(dice),
         7 => sized(dice),
-        _ => all_branches(dice),
+        8 => all_branches(dice),
+        _ => longest(dice),
     };
     if dice.percent(50) {
         draft.shuffle(dice);
@@ -463,5 +464,28 @@ fn all_branches(dice: &mut Dice) -> Draft {
         registers,
         entry: 0,
         rows,
+    }
+}
+
+/// The longest file there is: branches with words of five bytes and targets
+/// of two, as many as a runnable graph may have.
+fn longest(dice: &mut Dice) -> Draft {
+    let nodes = RUNNABLE.nodes;
+    let row = |dice: &mut Dice| {
+        let word = dice.between(1 << 28, u32::MAX - 1);
+        let (then, other) = (dice.between(128, nodes - 1), dice.between(128, nodes - 1));
+        [
+            BRANCH_WORD,
+            dice.below(6),
+            dice.below(64),
+            word,
+            then,
+            other,
+        ]
+    };
+    Draft {
+        registers: RUNNABLE.registers,
+        entry: dice.between(128, nodes - 1),
+        rows: (0..nodes).map(|_| row(dice)).collect(),
     }
 }

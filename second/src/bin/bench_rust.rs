@@ -71,18 +71,20 @@ impl Work {
         }
     }
 
-    /// Prints what one job answers and the nanoseconds each took.
+    /// Prints the mean and the least nanoseconds of a job, and what it answers.
     fn time(mut self, repeat: u32, job: Job) -> Result<(), Refusal> {
         let answer = job(&mut self)?;
-        let began = Instant::now();
+        let (mut all, mut least) = (0, u128::MAX);
         for _ in 0..repeat {
+            let began = Instant::now();
             black_box(job(black_box(&mut self))?);
+            let taken = began.elapsed().as_nanos();
+            all += taken;
+            least = least.min(taken);
         }
-        let each = began.elapsed().as_nanos() / u128::from(repeat);
-        println!(
-            "{each} nanoseconds per run, {repeat} runs: {}",
-            answer.trim_end()
-        );
+        let mean = all / u128::from(repeat);
+        let answer = answer.trim_end();
+        println!("{mean} nanoseconds per run, least {least}, {repeat} runs: {answer}");
         Ok(())
     }
 
