@@ -86,15 +86,15 @@ impl Attempt<'_, '_> {
             true => whole.steps + 1 + self.dice.below(50),
             false => whole.steps,
         };
-        self.follows(budget);
+        let source = self.follows(budget);
         let cut = self.dice.below(whole.steps + 1);
         self.follows(cut);
         let places = self.places(whole.hardened_steps());
         for place in self.sample(&places) {
             self.inversion(place);
         }
-        if whole.ended {
-            self.score(&whole, budget);
+        if let Some(source) = source.filter(|_| whole.ended) {
+            self.score(&whole, &source);
         }
     }
 
@@ -120,20 +120,17 @@ impl Attempt<'_, '_> {
         walk
     }
 
-    /// The hardened run stands after 1 + s + 4b + 3x steps as the source does after s.
-    fn follows(&mut self, budget: u32) {
+    /// The hardened run stands after 1 + s + 4b + 3x steps as the source does
+    /// after s; answers the source's run.
+    fn follows(&mut self, budget: u32) -> Option<Observed> {
         let source_line = self.line("plain", budget, "none");
-        let Some(source) = self.observe(&source_line) else {
-            return;
-        };
+        let source = self.observe(&source_line)?;
         let walk = self.walk(source.steps, u32::MAX);
         let expected = 1 + source.steps + 4 * source.branches + 3 * walk.crossings;
         // Full is no step, so it shows only when one more step is allowed.
         let budget = expected + u32::from(source.outcome == "full");
         let line = self.line("hardened", budget, "none");
-        let Some(hardened) = self.observe(&line) else {
-            return;
-        };
+        let hardened = self.observe(&line)?;
         self.trial.tally.follows += 1;
         let registers = self.source.0.registers as usize;
         let alike = hardened.steps == expected
@@ -150,6 +147,7 @@ impl Attempt<'_, '_> {
             );
             self.trial.fail("hrun", &line, &message);
         }
+        Some(source)
     }
 
     /// The branches among the first steps of the hardened run.
@@ -239,10 +237,7 @@ impl Attempt<'_, '_> {
 
     /// A hardened score with five steps to spare: all caught, but for the
     /// two tests of each branch with one target.
-    fn score(&mut self, whole: &Walk, budget: u32) {
-        let Some(source) = self.observe(&self.line("plain", budget, "none")) else {
-            return;
-        };
+    fn score(&mut self, whole: &Walk, source: &Observed) {
         let positions = 3 * source.branches + whole.crossings;
         let steps = whole.hardened_steps();
         let returned = source.outcome.starts_with("returned");
@@ -274,7 +269,9 @@ impl Attempt<'_, '_> {
 
     fn observe(&mut self, line: &Line) -> Option<Observed> {
         let said = self.trial.said("hrun", line)?;
-        let observed = Observed::parse(&said.output);
+        let budget: u32 = line[1].parse().unwrap_or(0);
+        // Walking along steps that were never allowed would lead nowhere.
+        let observed = Observed::parse(&said.output).filter(|observed| observed.steps <= budget);
         if observed.is_none() {
             self.trial.tally.follows += 1;
             let message = format!(

@@ -1,6 +1,7 @@
 //! The command line of the second program.
 #![forbid(unsafe_code)]
 
+use second::arguments::{run_arguments, score_arguments};
 use second::compare::{self, compare, show_case};
 use second::examples;
 use second::options::Options;
@@ -44,8 +45,15 @@ fn main() -> ExitCode {
 fn dispatch(command: &str, rest: &[String]) -> Result<bool, String> {
     match command {
         "hlist" => print(hlist(&graph_file()?).as_bytes()),
-        "hrun" => print(hrun(rest, &graph_file()?)?.as_bytes()),
-        "hscore" => print(hscore(rest, &graph_file()?)?.as_bytes()),
+        // Bad arguments are told before anything is waited for.
+        "hrun" => {
+            run_arguments(rest)?;
+            print(hrun(rest, &graph_file()?)?.as_bytes())
+        }
+        "hscore" => {
+            score_arguments(rest)?;
+            print(hscore(rest, &graph_file()?)?.as_bytes())
+        }
         "assemble" => print(&assemble(&whole_text()?)?),
         "show" => show_file(),
         "compare" => compare_programs(rest),

@@ -126,7 +126,8 @@ impl Observed {
             events: many(lines.next()?, "events")?,
             registers: many(lines.next()?, "registers")?,
         };
-        lines.next().is_none().then_some(observed)
+        let whole = lines.next().is_none() && observed.registers.len() == 64;
+        whole.then_some(observed)
     }
 }
 
