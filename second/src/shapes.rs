@@ -94,7 +94,8 @@ pub fn any_shape(dice: &mut Dice) -> Draft {
         6 => catching(dice),
         7 => sized(dice),
         8 => all_branches(dice),
-        _ => longest(dice),
+        // Shuffled, some of its targets would take one byte less.
+        _ => return longest(dice),
     };
     if dice.percent(50) {
         draft.shuffle(dice);
