@@ -1,0 +1,147 @@
+//! The given programs as a stranger sees them: started with a file and a
+//! command line, heard until they end, ended when they hang.
+
+use std::io::{self, Read, Write};
+use std::path::{Path, PathBuf};
+use std::process::{Child, Command, Stdio};
+use std::sync::{Arc, Mutex, Weak};
+use std::thread;
+use std::time::{Duration, Instant};
+
+/// Far more than any answer takes.
+const PATIENCE: Duration = Duration::from_secs(20);
+
+/// The paths of the three programs.
+#[derive(Clone)]
+pub struct Programs {
+    pub hlist: PathBuf,
+    pub hrun: PathBuf,
+    pub hscore: PathBuf,
+}
+
+/// What a program wrote, and whether it had to be ended.
+pub struct Said {
+    pub output: String,
+    pub errors: String,
+    pub ended: bool,
+}
+
+struct Running {
+    child: Child,
+    since: Instant,
+    ended: bool,
+}
+
+type Slot = Mutex<Option<Running>>;
+
+/// Starts programs one after another for one worker.
+pub struct Starter {
+    slot: Arc<Slot>,
+}
+
+impl Starter {
+    pub fn new() -> Self {
+        let slot = Arc::new(Mutex::new(None));
+        let watched = Arc::downgrade(&slot);
+        thread::spawn(move || watch(watched));
+        Starter { slot }
+    }
+
+    pub fn start(&self, program: &Path, line: &[String], file: &[u8]) -> io::Result<Said> {
+        let mut child = Command::new(program)
+            .args(line)
+            .stdin(Stdio::piped())
+            .stdout(Stdio::piped())
+            .stderr(Stdio::piped())
+            .spawn()?;
+        let stdin = child.stdin.take();
+        let (stdout, stderr) = (child.stdout.take(), child.stderr.take());
+        *self.slot.lock().expect("no worker fails in here") = Some(Running {
+            child,
+            since: Instant::now(),
+            ended: false,
+        });
+        // A program may answer without having read everything.
+        let _ = stdin.map(|mut pipe| pipe.write_all(file));
+        let (output, errors) = (heard(stdout)?, heard(stderr)?);
+        let running = self.slot.lock().expect("no worker fails in here").take();
+        let mut running = running.expect("it was put there above");
+        running.child.wait()?;
+        Ok(Said {
+            output,
+            errors,
+            ended: running.ended,
+        })
+    }
+}
+
+impl Default for Starter {
+    fn default() -> Self {
+        Starter::new()
+    }
+}
+
+fn heard(pipe: Option<impl Read>) -> io::Result<String> {
+    let mut bytes = Vec::new();
+    if let Some(mut pipe) = pipe {
+        pipe.read_to_end(&mut bytes)?;
+    }
+    Ok(String::from_utf8_lossy(&bytes).into_owned())
+}
+
+/// Ends a program that has outlasted our patience, as long as its worker lives.
+fn watch(slot: Weak<Slot>) {
+    while let Some(slot) = slot.upgrade() {
+        if let Some(running) = slot.lock().expect("no worker fails in here").as_mut() {
+            if running.since.elapsed() > PATIENCE && !running.ended {
+                running.ended = running.child.kill().is_ok();
+            }
+        }
+        drop(slot);
+        thread::sleep(Duration::from_millis(250));
+    }
+}
+
+/// The answer of `hrun`, taken apart.
+#[derive(Clone, Debug, PartialEq, Eq)]
+pub struct Observed {
+    pub outcome: String,
+    pub node: u32,
+    pub steps: u32,
+    pub branches: u32,
+    pub reads: u32,
+    pub events: Vec<u32>,
+    pub registers: Vec<u32>,
+}
+
+impl Observed {
+    pub fn parse(text: &str) -> Option<Self> {
+        let mut lines = text.lines();
+        let observed = Observed {
+            outcome: lines.next()?.to_string(),
+            node: one(lines.next()?, "node")?,
+            steps: one(lines.next()?, "steps")?,
+            branches: one(lines.next()?, "branches")?,
+            reads: one(lines.next()?, "reads")?,
+            events: many(lines.next()?, "events")?,
+            registers: many(lines.next()?, "registers")?,
+        };
+        let whole = lines.next().is_none() && observed.registers.len() == 64;
+        whole.then_some(observed)
+    }
+}
+
+fn one(line: &str, name: &str) -> Option<u32> {
+    match many(line, name)?[..] {
+        [word] => Some(word),
+        _ => None,
+    }
+}
+
+fn many(line: &str, name: &str) -> Option<Vec<u32>> {
+    let mut words = line.split(' ');
+    if words.next() != Some(name) {
+        return None;
+    }
+    words.map(|word| word.parse().ok()).collect()
+}
