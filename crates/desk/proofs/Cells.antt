@@ -1,7 +1,7 @@
 -- The ways through an argument's cell, and through a comparison of two texts.
 -- Assumes nothing.
 use mathlib.Core.Path.{_≡_, refl, sym, ap, _∙_}
-use Prim.Native.Nat.{ℕ, zero, suc, _+_, _-_, _*_, _≤_, _<_}
+use Prim.Native.Nat.{ℕ, zero, suc, _+_, _-_, _*_, _/_, _≤_, _<_}
 use native.Mathlib.Numerals.{add-one}
 use native.Mathlib.Nat.{add-sub-cancel-left}
 use native.Mathlib.Omega.{arith}
@@ -11,7 +11,9 @@ use mathlib.Core.List.{List, [], _∷_}
 use lib.ListN.{length, getD, take, drop, set, drop-of-length-le, length-append}
 use lib.Seq.{drop-cons}
 use borrow.Author.Tests.{lt-leb, le-leb, lt-ltb, le-ltb, eq-eqb, ne-eqb}
-use Rattle.desk.specs.Arguments.{argument, sameText, isNumber, otherFrom, wordOf, wordsOf}
+use Rattle.desk.specs.Arguments.{argument, sameText, isNumber, otherFrom, wordOf, wordsOf, wordsIn}
+use Rattle.desk.specs.declared.Wanted.{Wanted}
+use Rattle.desk.specs.declared.Words.the-variants.{All, Bad}
 use Rattle.text.specs.Decimals.{valueOf}
 use Rattle.words.specs.Buffer.{put}
 use Rattle.words.proofs.Puts.{put-nil, put-one, put-at, length-put}
@@ -94,3 +96,21 @@ module _ (cells : List ℕ) where
       rw (add-one, e, f)
       (sym (put-one (put l 0 (wordsOf cells from k)) k (wordOf (valueOf (argument cells (from + k)))))
       ∙ put-at l 0 k (wordsOf cells from k) (wordOf (valueOf (argument cells (from + k))) ∷ []) there)
+
+-- the ways through counting the words that the last arguments are
+module _ (cells : List ℕ) (from : ℕ) where
+  pub words-end : from + 4096 < length cells / 16 → Bad (Wanted.End (from + 4097)) ≡ wordsIn cells from
+  unfolding wordsIn
+  words-end h = rw (lt-leb (length cells / 16) (from + 4096) h) (ap (λ (i : ℕ). Bad (Wanted.End i)) (omega arith))
+
+  module _ (left first : ℕ) (few : length cells / 16 ≤ from + 4096) (e : left ≡ length cells / 16 - from) (f : first ≡ otherFrom cells (from + left - from) from) where
+    first-is : first ≡ otherFrom cells (length cells / 16 - from) from
+    first-is = let g : from + left - from ≡ length cells / 16 - from = omega arith in f ∙ ap (λ (k : ℕ). otherFrom cells k from) g
+
+    pub words-bad : first < length cells / 16 → Bad (Wanted.Word (first + 1)) ≡ wordsIn cells from
+    unfolding wordsIn
+    words-bad h = rw (sym first-is, le-leb (length cells / 16) (from + 4096) few, lt-leb (length cells / 16) first h)
+
+    pub words-all : length cells / 16 ≤ first → All left ≡ wordsIn cells from
+    unfolding wordsIn
+    words-all h = rw (sym first-is, le-leb (length cells / 16) (from + 4096) few, le-leb (length cells / 16) first h, e)

@@ -117,7 +117,11 @@ pub fn complaint(out: &mut [u8], wanted: Wanted) -> usize
         Wanted::Mode => expected(out, 1, b": expected MODE, plain or hardened"),
         Wanted::Budget => expected(out, 2, b": expected BUDGET, a number up to 4294967295"),
         Wanted::Room => expected(out, 3, b": expected ROOM, a number up to 16384"),
-        Wanted::Fault => expected(out, 4, b": expected FAULT, none or a number up to 4294967295"),
+        Wanted::Fault => expected(
+            out,
+            4,
+            b": expected FAULT, none or a number up to 4294967295",
+        ),
         Wanted::Word(i) => expected(out, i, b": expected WORD, a number up to 4294967295"),
         Wanted::End(i) => expected(out, i, b": expected no more than 4096 words"),
     }

@@ -1,46 +1,37 @@
+-- `desk::arguments::words` meets its contract.
+-- Assumes nothing.
+use denote.Ref.{now}
+use Rattle.desk.proofs.Cells.{words-end, words-bad, words-all}
 use borrow.Author.Needs.{needs}
 use Rattle.desk.proofs.arguments.words.Statement.{statement}
 use Rattle.desk.proofs.arguments.words.Tie as tie
-use Rattle.desk.proofs.arguments.words.Reads as reads
-use Rattle.desk.proofs.arguments.words.Lts as lts
-use Rattle.desk.proofs.arguments.above.Reads as above-reads
-use Rattle.desk.proofs.arguments.other.Reads as other-reads
 
--- src/arguments.rt:171:8
 add-if1 : tie.Need-add-if1
 add-if1 c = search needs
 
--- src/arguments.rt:172:39
 add-t8 : tie.Need-add-t8
 add-t8 c = search needs
 
--- src/arguments.rt:172:9
 returns : tie.Need-returns
-returns c = ?
+returns c = words-end _ _ (c .if1 .taken)
 
--- src/arguments.rt:174:9
 above-requires : tie.Need-above-requires
 above-requires c κs = search needs
 
--- src/arguments.rt:175:36
 add-other : tie.Need-add-other
 add-other c = search needs
 
--- src/arguments.rt:175:9
 other-requires : tie.Need-other-requires
 other-requires c κs = search needs
 
--- src/arguments.rt:177:40
 add-t10 : tie.Need-add-t10
 add-t10 c = search needs
 
--- src/arguments.rt:177:9
 returns-2 : tie.Need-returns-2
-returns-2 c = ?
+returns-2 c = words-bad (now (c .before .before .before .before .before .args .cells)) (c .before .before .before .before .before .args .from) _ _ (c .before .before .before .if1 .left) (c .before .before .above .ensures) (c .before .other .ensures) (c .if2 .taken)
 
--- src/arguments.rt:166:1
 returns-3 : tie.Need-returns-3
-returns-3 c = ?
+returns-3 c = words-all (now (c .before .before .before .before .before .args .cells)) (c .before .before .before .before .before .args .from) _ _ (c .before .before .before .if1 .left) (c .before .before .above .ensures) (c .before .other .ensures) (c .if2 .left)
 
 pub words-spec : {M : Type 1} → statement M
 words-spec =
