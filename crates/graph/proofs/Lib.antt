@@ -2,3 +2,6 @@
 pub mod Rows
 pub mod Ranges
 pub mod Words
+pub mod Passed
+pub mod InOrder
+pub mod Facts

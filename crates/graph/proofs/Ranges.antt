@@ -3,7 +3,7 @@ use mathlib.Core.Path.{_≡_}
 use mathlib.Core.Bool.{Bool, true, false, _&&_}
 use Prim.Native.Nat.{ℕ, _≤_}
 use lib.Dec.{leb}
-use borrow.Author.Tests.{leb-true}
+use borrow.Author.Tests.{leb-true, le-leb}
 use Rattle.graph.specs.Kinds.{inRange}
 
 and-both : (a b : Bool) → (a && b) ≡ true → (a ≡ true) × (b ≡ true)
@@ -16,3 +16,6 @@ pub in-range : (low high n : ℕ) → inRange low high n ≡ true → (low ≤ n
 in-range low high n e =
     let both : (leb low n ≡ true) × (leb n high ≡ true) = and-both (leb low n) (leb n high) e in
     (leb-true low n (both .0), leb-true n high (both .1))
+
+pub range-in : (low high n : ℕ) → low ≤ n → n ≤ high → inRange low high n ≡ true
+range-in low high n above below = rw (le-leb low n above, le-leb n high below)
