@@ -1,6 +1,7 @@
 -- What the checks establish of an accepted graph, node by node; that an accepted source is runnable; and that a row of an
 -- accepted table holds just its node's words. Assumes nothing.
 use mathlib.Core.Path.{_≡_, refl, sym, ap, _∙_}
+use mathlib.Core.Bool.{true}
 use mathlib.Core.List.{List, [], _∷_}
 use Prim.Native.Nat.{ℕ, zero, suc, _+_, _*_, _/_, _%_, _≤_, _<_}
 use native.Mathlib.Nat.{add-zero}
@@ -15,11 +16,14 @@ use Rattle.graph.specs.declared.Role.the-variants.{Kind, Operator, Compa
 use Rattle.graph.specs.Limits.{runnable, source}
 use Rattle.graph.specs.Kinds.{roleAt, fault}
 use Rattle.graph.specs.Nodes.{nodeAt, wordsOf}
+use Rattle.graph.specs.Paths.{PathIn, marked, reached}
 use Rattle.graph.specs.Accepted.{NodeIn, NoCatch, RunnableGraph, SourceGraph}
-use Rattle.graph.specs.Checks.{faultAt, tableCheck, runnableCheck, sourceCheck}
+use Rattle.graph.specs.Checks.{faultAt, tableCheck, reachCheck, runnableCheck, sourceCheck}
 use Rattle.graph.proofs.Ranges.{range-in}
 use Rattle.graph.proofs.Passed.{Passed, table-passed, table-given}
 use Rattle.graph.proofs.InOrder.{kind-in, node-row, table-node-in, table-no-catch}
+use Rattle.graph.proofs.Unmarked.{unmarked-none}
+use Rattle.graph.proofs.Reached.{marked-short, path-of}
 
 -- what a check that is handed on has passed
 pub and-given : {A B : Type 0} {b : B} (answer : Answer A) (next : A → Answer B)
@@ -69,11 +73,13 @@ module _ (registers nodes entry : ℕ) (table : List ℕ) where
   unfolding runnableCheck
   runnable-passed e = table-passed runnable registers nodes entry table e
 
-  pub source-passed : sourceCheck registers nodes entry table ≡ given tt → Passed source registers nodes entry table
+  source-parts : sourceCheck registers nodes entry table ≡ given tt
+      → (tableCheck source registers nodes entry table ≡ given tt) × (reachCheck nodes entry table ≡ given tt)
   unfolding sourceCheck
-  source-passed e =
-      let first = and-given (tableCheck source registers nodes entry table) _ e in
-      table-passed source registers nodes entry table (first .1)
+  source-parts e = let parts = and-given (tableCheck source registers nodes entry table) _ e in (parts .1, parts .2)
+
+  pub source-passed : sourceCheck registers nodes entry table ≡ given tt → Passed source registers nodes entry table
+  source-passed e = table-passed source registers nodes entry table (source-parts e .0)
 
   -- an accepted source is runnable
   pub source-runnable : sourceCheck registers nodes entry table ≡ given tt → runnableCheck registers nodes entry table ≡ given tt
@@ -115,3 +121,28 @@ module _ (registers nodes entry : ℕ) (table : List ℕ) where
   -- the same, word by word
   pub row-word : runnableCheck registers nodes entry table ≡ given tt → (n j : ℕ) → n < nodes → j < 6 → getD table (6 * n + j) 0 ≡ getD (wordsOf (nodeAt table n)) j 0
   row-word e n j inside word = rw (row-words e n inside, getD-take, getD-drop)
+
+  source-marked : sourceCheck registers nodes entry table ≡ given tt → (n : ℕ) → n < nodes → marked (reached (nodeAt table) nodes entry) n ≡ true
+  unfolding reachCheck
+  source-marked e n inside = unmarked-none (reached (nodeAt table) nodes entry) nodes 0 (source-parts e .1) n (omega arith) (omega arith)
+
+  -- every node of a source is reached by a path with no more edges than there are nodes
+  pub path-short : sourceCheck registers nodes entry table ≡ given tt → (n : ℕ) → n < nodes
+      → (edges : ℕ) × (edges ≤ nodes) × PathIn (nodeAt table) entry edges n
+  path-short e n inside = marked-short (nodeAt table) nodes entry n (source-marked e n inside)
+
+  pub source-facts : sourceCheck registers nodes entry table ≡ given tt → SourceGraph registers nodes entry (nodeAt table)
+  source-facts e =
+      let p = source-passed e in
+      record {
+        some-registers = p .some-registers;
+        few-registers = p .few-registers;
+        few-nodes = p .few-nodes;
+        entry-in = p .entry-in;
+        node-in = table-node-in source registers nodes entry table p (omega arith);
+        no-catch = table-no-catch source registers nodes entry table p (omega arith);
+        path = λ n inside. path-of (path-short e n inside .2);
+      }
+
+  pub source-room : sourceCheck registers nodes entry table ≡ given tt → 6 * nodes ≤ length table
+  source-room e = source-passed e .room

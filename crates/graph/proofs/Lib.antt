@@ -4,4 +4,10 @@ pub mod Ranges
 pub mod Words
 pub mod Passed
 pub mod InOrder
+pub mod Marking
+pub mod Rounds
+pub mod Reached
+pub mod Unmarked
+pub mod Refusals
 pub mod Facts
+pub mod Unreachable
