@@ -1,10 +1,10 @@
 -- The check of a source: the table's refusal stands, and else the marks decide.
 -- Assumes nothing.
-use mathlib.Core.Path.{_≡_, refl, sym, ap, _∙_}
+use mathlib.Core.Path.{_≡_, sym, ap, _∙_}
 use mathlib.Core.List.{List}
 use Prim.Native.Nat.{ℕ, _≤_, _<_}
 use native.Mathlib.Omega.{arith}
-use Rattle.words.specs.Answer.{Answer, given, refused, andThen}
+use Rattle.words.specs.Answer.{Answer, given, andThen}
 use Rattle.graph.specs.declared.Check.{Check}
 use Rattle.graph.specs.declared.Check.the-variants.{Accepted, Refused}
 use Rattle.graph.specs.Limits.{source}

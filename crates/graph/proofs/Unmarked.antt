@@ -1,12 +1,12 @@
 -- The search for the lowest node without a mark: what it answers, and that only the marks of the nodes it looks at decide.
 -- Assumes nothing.
-use mathlib.Core.Path.{_≡_, refl, sym, ap, _∙_}
+use mathlib.Core.Path.{_≡_, refl, ap, _∙_}
 use mathlib.Core.Bool.{Bool, true, false, cond}
 use mathlib.Core.Logic.{⊎-elim}
 use Prim.Native.Nat.{ℕ, zero, suc, _+_, _-_, _≤_, _<_}
 use native.Mathlib.Nat.{eq-or-lt-of-le}
 use native.Mathlib.Omega.{arith}
-use Rattle.words.specs.Answer.{Answer, given, refused}
+use Rattle.words.specs.Answer.{given, refused}
 use Rattle.graph.specs.Paths.{Marks, marked}
 use Rattle.graph.specs.Checks.{unmarkedFrom}
 

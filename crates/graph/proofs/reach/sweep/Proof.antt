@@ -1,5 +1,5 @@
 -- `reach::sweep` meets its contract. The loop's invariant: the nodes below n are swept. Assumes nothing.
-use mathlib.Core.Path.{_≡_, sym, _∙_}
+use mathlib.Core.Path.{_≡_}
 use Prim.Native.Nat.{_≤_, _-_}
 use native.Mathlib.Omega.{arith}
 use lib.ListN.{length}
