@@ -1,7 +1,7 @@
 -- Document 01, "The graph": every node of a source is reachable from the entry by some path of edges, the entry by the empty one.
 -- `Path` says it; `reached` computes it, in rounds that each follow one edge more.
 -- Assumes nothing.
-use Prim.Native.Nat.{ℕ, zero, suc, _+_}
+use Prim.Native.Nat.{ℕ, zero, suc}
 use mathlib.Core.Bool.{Bool, true, false, cond}
 use mathlib.Core.List.{List, [], _∷_, List·Memᴰ}
 use lib.ListN.{getD, set, replicate}
@@ -11,6 +11,11 @@ use Rattle.graph.specs.Nodes.{Node, targets}
 pub data Path (graph : ℕ → Node) (entry : ℕ) : ℕ → Type 0 where
   empty : Path graph entry entry
   along : {m n : ℕ} → Path graph entry m → List·Memᴰ n (targets (graph m)) → Path graph entry n
+
+-- a path of so many edges from the entry
+pub data PathIn (graph : ℕ → Node) (entry : ℕ) : ℕ → ℕ → Type 0 where
+  start : PathIn graph entry zero entry
+  onward : {edges m n : ℕ} → PathIn graph entry edges m → List·Memᴰ n (targets (graph m)) → PathIn graph entry (suc edges) n
 
 -- marks, one a node
 abbrev pub Marks : Type 0
