@@ -1,4 +1,5 @@
 // One step, a run, a campaign.
+mod operators;
 
 // The machine's state: its registers, the node to execute next, and what has been counted so far.
 pub struct State {
