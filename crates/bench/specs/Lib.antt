@@ -1,4 +1,5 @@
 pub mod Words
 pub mod Steps
+pub mod Effects
 pub mod Runs
 pub mod Campaigns
