@@ -1,13 +1,16 @@
 -- Document 01, "Running and scoring": what one step does, as an effect on a machine, and that a step applies it.
 -- Assumes nothing.
 use Prim.Native.Nat.{ℕ, _+_, _*_, _≤_, _<_}
-use mathlib.Core.Bool.{Bool, cond}
+use mathlib.Core.Bool.{Bool, true, cond}
 use mathlib.Core.List.{List, [], _∷_, _++_}
 use lib.ListN.{length, getD, set}
+use lib.Dec.{leb}
 use Rattle.graph.specs.Nodes.{Node, go, branch, ret, stop, const, op, input, output, register, constant, nodeOf, Operand}
 use Rattle.graph.specs.Accepted.{NodeIn}
 use Rattle.bench.specs.Words.{operate, compare}
-use Rattle.bench.specs.Steps.{Machine, Status, going, ended, flip}
+use Rattle.bench.specs.Steps.{Machine, Setting, Status, going, ended, inverts, flip}
+use Rattle.bench.specs.declared.Fault.{Fault}
+use Rattle.bench.specs.declared.State.{State}
 use Rattle.bench.specs.declared.Outcome.{Outcome}
 use Rattle.bench.specs.declared.Outcome.the-variants.{Returned, Caught}
 use Rattle.bench.specs.declared.steps.Effect.{Effect}
@@ -55,3 +58,39 @@ effectOf registers inputs reads self flips (branch c a b then else) =
     branches registers c a (comparand registers b) flips then else
 effectOf registers inputs reads self flips (ret a) = keeps registers a self 0 sequel.Returned
 effectOf registers inputs reads self flips stop = keeps registers 0 self 0 sequel.Caught
+
+-- the words of the event that a step makes
+abbrev pub eventWords : Sequel → ℕ → List ℕ
+eventWords sequel.On value = []
+eventWords (sequel.Event port) value = port ∷ value ∷ []
+eventWords sequel.Returned value = []
+eventWords sequel.Caught value = []
+
+-- whether there are two words left for the event, if there is one
+abbrev pub hasRoom : Sequel → ℕ → ℕ → Bool
+hasRoom sequel.On words room = true
+hasRoom (sequel.Event port) words room = leb (words + 2) room
+hasRoom sequel.Returned words room = true
+hasRoom sequel.Caught words room = true
+
+-- whether the run goes on
+abbrev pub statusAfter : Sequel → ℕ → Status
+statusAfter sequel.On value = going
+statusAfter (sequel.Event port) value = going
+statusAfter sequel.Returned value = ended (Returned value)
+statusAfter sequel.Caught value = ended Caught
+
+-- the state after the step
+abbrev pub applied : State → Effect → State
+applied state e =
+    record { registers = set (state .registers) (e .register) (e .value); node = e .next; steps = state .steps + 1; branches = state .branches + e .branches; reads = state .reads + e .reads }
+
+-- a state and the words of the events so far
+abbrev pub machineOf : State → List ℕ → Machine
+machineOf state events =
+    record { registers = state .registers; node = state .node; steps = state .steps; branches = state .branches; reads = state .reads; events = events }
+
+-- the effect of the next step from a state
+abbrev pub effectFrom : Setting → Fault → State → Effect
+effectFrom s fault state =
+    effectOf (state .registers) (s .inputs) (state .reads) (state .node) (inverts fault (state .branches)) (s .graph (state .node))

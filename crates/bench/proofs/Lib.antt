@@ -1,0 +1,3 @@
+-- What holds of steps, runs and campaigns.
+pub mod Effects
+pub mod Rounds
