@@ -2,4 +2,5 @@ pub mod Words
 pub mod Steps
 pub mod Effects
 pub mod Runs
+pub mod Ready
 pub mod Campaigns

@@ -1,5 +1,6 @@
 // One step, a run, a campaign.
 mod operators;
+mod runs;
 mod steps;
 
 // The machine's state: its registers, the node to execute next, and what has been counted so far.
