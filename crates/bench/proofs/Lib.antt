@@ -1,3 +1,4 @@
 -- What holds of steps, runs and campaigns.
 pub mod Effects
 pub mod Rounds
+pub mod Turns

@@ -48,7 +48,7 @@ branches registers c a b flips then else =
     keeps registers a (cond (flip flips (compare c (getD registers a 0) b)) then else) 1 sequel.On
 
 -- what a node does, itself the node at `self`, where `flips` says whether its branch is inverted
-abbrev pub effectOf : List ℕ → List ℕ → ℕ → ℕ → Bool → Node → Effect
+unfoldable pub effectOf : List ℕ → List ℕ → ℕ → ℕ → Bool → Node → Effect
 effectOf registers inputs reads self flips (go (const d k) next) = sets d k next 0
 effectOf registers inputs reads self flips (go (op o d a b) next) =
     sets d (operate o (getD registers a 0) (getD registers b 0)) next 0
@@ -91,6 +91,6 @@ machineOf state events =
     record { registers = state .registers; node = state .node; steps = state .steps; branches = state .branches; reads = state .reads; events = events }
 
 -- the effect of the next step from a state
-abbrev pub effectFrom : Setting → Fault → State → Effect
+unfoldable pub effectFrom : Setting → Fault → State → Effect
 effectFrom s fault state =
     effectOf (state .registers) (s .inputs) (state .reads) (state .node) (inverts fault (state .branches)) (s .graph (state .node))

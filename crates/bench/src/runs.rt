@@ -65,7 +65,7 @@ fn write(buffer: &mut [u32], i: usize, value: u32)
 }
 
 // The event of a step, if it makes one, is written after so many words; how many there are then.
-fn record(events: &mut [u32], words: usize, sequel: Sequel, value: u32, room: usize) -> usize
+fn write_event(events: &mut [u32], words: usize, sequel: Sequel, value: u32, room: usize) -> usize
     requires { ⌜ hasRoom sequel words room ≡ true ⌝ }
     ensures { λ r. ⌜ r ≡ words + length (eventWords sequel value) ⌝ }
     ensures { λ _. ⌜ now (events .exit) ≡ put (now (events .entry)) words (eventWords sequel value) ⌝ }
@@ -79,5 +79,63 @@ fn record(events: &mut [u32], words: usize, sequel: Sequel, value: u32, room: us
         }
         Sequel::Returned => words,
         Sequel::Caught => words,
+    }
+}
+
+// A run goes on from a state until it ends or its budget is used up. Events past the end of the buffer are counted and lost.
+pub fn proceed(
+    table: &[u32],
+    inputs: &[u32],
+    events: &mut [u32],
+    room: usize,
+    budget: usize,
+    fault: Fault,
+    from: State,
+    made: usize,
+) -> Ended
+    requires { ⌜ Ready (now table) budget from ⌝ }
+    requires { ⌜ made ≤ length (now events) ⌝ }
+    ensures { λ r. ⌜ r ≡ endedOf (restOf (settingOf (now (table .entry)) (now (inputs .entry)) room) fault from made (now (events .entry)) (budget - from .steps)) ⌝ }
+    ensures { λ _. ⌜ now (events .exit) ≡ put (now (events .entry)) 0 (restOf (settingOf (now (table .entry)) (now (inputs .entry)) room) fault from made (now (events .entry)) (budget - from .steps) .machine .events) ⌝ }
+{
+    let mut state = from;
+    let mut words = made;
+    while state.steps < budget {
+        let inverted = steps::inverts(fault, state.branches);
+        let effect = steps::effect_at(
+            table,
+            inputs,
+            &state.registers,
+            state.node,
+            state.reads,
+            inverted,
+        );
+        let sequel = effect.sequel;
+        if !has_room(sequel, words, room) {
+            return Ended {
+                outcome: Outcome::Full,
+                state,
+                words,
+            };
+        }
+        words = write_event(events, words, sequel, effect.value, room);
+        let register = effect.register;
+        state.registers[register] = effect.value;
+        state.node = effect.next;
+        state.steps += 1;
+        state.branches += effect.branches;
+        state.reads += effect.reads;
+        if let Ending::With(outcome) = ends(sequel, effect.value) {
+            return Ended {
+                outcome,
+                state,
+                words,
+            };
+        }
+    }
+    Ended {
+        outcome: Outcome::Spent,
+        state,
+        words,
     }
 }

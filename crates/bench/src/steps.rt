@@ -3,6 +3,8 @@ ghost use mathlib.Core.Path.{_≡_};
 ghost use Prim.Native.Nat.{_+_, _*_, _<_, _≤_};
 ghost use mathlib.Core.Bool.{cond};
 ghost use lib.ListN.{length, getD};
+ghost use Rattle.graph.specs.Nodes.{nodeAt};
+ghost use Rattle.bench.specs.Ready.{Inside};
 ghost use Rattle.bench.specs.Steps.{inverts, flip};
 ghost use Rattle.bench.specs.Effects.{effectOf, keeps, sets, branches, rowAt, nodeOfRow, RegistersIn};
 use crate::Fault;
@@ -52,7 +54,7 @@ pub struct Row {
     pub z: u32,
 }
 
-pub fn row_at(table: &[u32], node: usize) -> Row
+fn row_at(table: &[u32], node: usize) -> Row
     requires { ⌜ 6 * node + 6 ≤ length (now table) ⌝ }
     ensures { λ r. ⌜ r ≡ rowAt (now (table .entry)) node ⌝ }
 {
@@ -135,7 +137,7 @@ fn sets(register: usize, value: u32, next: usize, reads: usize) -> Effect
 }
 
 // One step: what a node does to the registers and counts, by its kind.
-pub fn step(
+fn step(
     row: Row,
     inputs: &[u32],
     registers: &[u32; 64],
@@ -167,4 +169,26 @@ pub fn step(
         // No checked graph has such a kind; the definition takes it for the catch.
         0 | 9..=4294967295 => kept(registers, 0, node, 0, Sequel::Caught),
     }
+}
+
+// The effect of a node of a checked graph.
+pub fn effect_at(
+    table: &[u32],
+    inputs: &[u32],
+    registers: &[u32; 64],
+    node: usize,
+    reads: usize,
+    inverted: bool,
+) -> Effect
+    requires { ⌜ Inside (now table) node ⌝ }
+    ensures { λ r. ⌜ r ≡ effectOf (now (registers .entry)) (now (inputs .entry)) reads node inverted (nodeAt (now (table .entry)) node) ⌝ }
+{
+    step(
+        row_at(table, node),
+        inputs,
+        registers,
+        node,
+        reads,
+        inverted,
+    )
 }

@@ -5,17 +5,10 @@ use mathlib.Core.Logic.{_⊎_, inl, inr, ⊎-elim}
 use Prim.Native.Nat.{ℕ, suc, _-_, _≤_}
 use native.Mathlib.Omega.{arith}
 use Rattle.graph.specs.Nodes.{stop, nodeOf}
+use Rattle.bench.specs.Effects.{effectOf}
 use Rattle.words.proofs.Arms.{NoneFrom, none-from}
 use Rattle.bench.proofs.steps.step.Statement.{statement}
 use Rattle.bench.proofs.steps.step.Tie as tie
-use Rattle.bench.proofs.steps.step.Reads as reads
-use Rattle.bench.proofs.steps.step.Lts as lts
-use Rattle.bench.proofs.operators.operate.Reads as operate-reads
-use Rattle.bench.proofs.steps.branched.Reads as branched-reads
-use Rattle.bench.proofs.steps.held.Reads as held-reads
-use Rattle.bench.proofs.steps.kept.Reads as kept-reads
-use Rattle.bench.proofs.steps.sets.Reads as sets-reads
-use Rattle.words.proofs.word.Reads as word-reads
 
 cast-v : tie.Need-cast-v
 cast-v c = search needs
@@ -89,36 +82,36 @@ kept-requires-4 : tie.Need-kept-requires-4
 kept-requires-4 c κs = search needs
 
 returns : tie.Need-returns
-unfolding nodeOf
+unfolding nodeOf effectOf
 returns c = rw (c .sets .ensures, c .before .match .keys1)
 
 returns-2 : tie.Need-returns-2
-unfolding nodeOf
+unfolding nodeOf effectOf
 returns-2 c =
     rw (c .sets2 .ensures, c .before .operate .ensures, c .before .before .held2 .ensures, c .before .before .before .held .ensures, c .before .before .before .before .match .keys2)
 
 returns-3 : tie.Need-returns-3
-unfolding nodeOf
+unfolding nodeOf effectOf
 returns-3 c = rw (c .branched .ensures, c .before .held3 .ensures, c .before .before .match .keys3)
 
 returns-4 : tie.Need-returns-4
-unfolding nodeOf
+unfolding nodeOf effectOf
 returns-4 c = rw (c .branched2 .ensures, c .before .match .keys4)
 
 returns-5 : tie.Need-returns-5
-unfolding nodeOf
+unfolding nodeOf effectOf
 returns-5 c = rw (c .sets3 .ensures, c .before .word .ensures, c .before .before .match .keys5)
 
 returns-6 : tie.Need-returns-6
-unfolding nodeOf
+unfolding nodeOf effectOf
 returns-6 c = rw (c .kept .ensures, c .before .match .keys6)
 
 returns-7 : tie.Need-returns-7
-unfolding nodeOf
+unfolding nodeOf effectOf
 returns-7 c = rw (c .kept2 .ensures, c .before .match .keys7)
 
 returns-8 : tie.Need-returns-8
-unfolding nodeOf
+unfolding nodeOf effectOf
 returns-8 c = rw (c .kept3 .ensures, c .before .match .keys8)
 
 -- kind 0 and those above 8 are none
@@ -133,6 +126,7 @@ above : (kind : ℕ) → NoneFrom 1 8 kind × (kind ≡ 0 → ⊥) → 9 ≤ kin
 above kind rest = none-from 1 8 kind (let other = rest .1 in omega arith) (rest .0)
 
 returns-9 : tie.Need-returns-9
+unfolding effectOf
 returns-9 c =
     rw (c .kept4 .ensures, unknown _ _ _ _ _ _ (⊎-elim (λ w. inl (w .keys9)) (λ w. inr (above _ (w .rest))) (c .before .match .came)))
 

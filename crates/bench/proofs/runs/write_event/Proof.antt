@@ -1,4 +1,4 @@
--- `bench::runs::record` meets its contract: the event's two words are one upward write. Assumes nothing.
+-- `bench::runs::write_event` meets its contract: the event's two words are one upward write. Assumes nothing.
 use borrow.Author.Needs.{needs}
 use borrow.Author.Tests.{leb-true}
 use mathlib.Core.Path.{_≡_, refl, sym, ap, _∙_}
@@ -8,8 +8,8 @@ use native.Mathlib.Nat.{add-zero}
 use native.Mathlib.Omega.{arith}
 use Rattle.words.specs.Buffer.{put}
 use Rattle.words.proofs.Puts.{put-nil, put-at}
-use Rattle.bench.proofs.runs.record.Statement.{statement}
-use Rattle.bench.proofs.runs.record.Tie as tie
+use Rattle.bench.proofs.runs.write_event.Statement.{statement}
+use Rattle.bench.proofs.runs.write_event.Tie as tie
 
 enum-told : tie.Need-enum-told
 enum-told c = search needs
@@ -60,8 +60,8 @@ returns-3 c = rw (c .enum-told2 .given .1) (nothing _ _)
 returns-4 : tie.Need-returns-4
 returns-4 c = rw (c .enum-told3 .given .1) (nothing _ _)
 
-pub record-spec : {M : Type 1} → statement M
-record-spec =
+pub write-event-spec : {M : Type 1} → statement M
+write-event-spec =
     tie.close
     (tie.spec
     enum-told
