@@ -17,6 +17,7 @@ use Rattle.bench.specs.Steps.{Machine, Setting, Status, going, ended, Pr
 use Rattle.bench.specs.Effects.{comparand, effectOf, effectFrom, eventWords, hasRoom, statusAfter, applied, machineOf}
 use Rattle.bench.specs.Runs.{next, after, settled}
 use Rattle.bench.specs.Ready.{Inside, Ready, settingOf, restOf, endedOf}
+use Rattle.bench.proofs.Bounds.{Counts, counts}
 use Rattle.bench.proofs.Effects.{followed, step-effect}
 use Rattle.bench.proofs.Rounds.{after-none, after-more, next-going, ended-stays}
 use Rattle.bench.specs.declared.Fault.{Fault}
@@ -26,33 +27,30 @@ use Rattle.bench.specs.declared.Outcome.the-variants.{Returned, Caught, 
 use Rattle.bench.specs.declared.runs.Ended.{Ended}
 use Rattle.bench.specs.declared.steps.Effect.{Effect}
 
--- an effect names a register below 64 and a node of the graph, and counts at most one branch and one read
+-- an effect of a node of the graph names a register below 64 and a node of the graph
 pub record Small (nodes : ℕ) (e : Effect) : Type 0 where
   pub register : e .register < 64
   pub next : e .next < nodes
-  pub branches : e .branches ≤ 1
-  pub reads : e .reads ≤ 1
+  pub counts : Counts e
 
 either-in : (b : Bool) (nodes then else : ℕ) → then < nodes → else < nodes → cond b then else < nodes
 either-in true nodes then else h i = h
 either-in false nodes then else h i = i
 
-small-of : (registers inputs : List ℕ) (reads self : ℕ) (flips : Bool) (nodes : ℕ) → self < nodes → (node : Node) → NodeIn 64 nodes node → Small nodes (effectOf registers inputs reads self flips node)
-unfolding effectOf
-small-of registers inputs reads self flips nodes h (go (const d k) next) i =
-    record { register = i .0; next = i .1; branches = omega arith; reads = omega arith }
-small-of registers inputs reads self flips nodes h (go (op o d a b) next) i =
-    record { register = i .0 .1; next = i .1; branches = omega arith; reads = omega arith }
-small-of registers inputs reads self flips nodes h (go (input d) next) i =
-    record { register = i .0; next = i .1; branches = omega arith; reads = omega arith }
-small-of registers inputs reads self flips nodes h (go (output port a) next) i =
-    record { register = i .0 .1; next = i .1; branches = omega arith; reads = omega arith }
-small-of registers inputs reads self flips nodes h (branch c a b then else) i =
-    record { register = i .1; next = either-in (flip flips (compare c (getD registers a 0) (comparand registers b))) nodes then else (i .3) (i .4); branches = omega arith; reads = omega arith }
-small-of registers inputs reads self flips nodes h (ret a) i =
-    record { register = i; next = h; branches = omega arith; reads = omega arith }
-small-of registers inputs reads self flips nodes h stop i =
-    record { register = omega arith; next = h; branches = omega arith; reads = omega arith }
+module _ (registers inputs : List ℕ) (reads self : ℕ) (flips : Bool) (nodes : ℕ) (h : self < nodes) where
+  abbrev Named : Node → Type 0
+  Named node = let e = effectOf registers inputs reads self flips node in (e .register < 64) × (e .next < nodes)
+
+  named : (node : Node) → NodeIn 64 nodes node → Named node
+  unfolding effectOf
+  named (go (const d k) next) i = i
+  named (go (op o d a b) next) i = (i .0 .1, i .1)
+  named (go (input d) next) i = i
+  named (go (output port a) next) i = (i .0 .1, i .1)
+  named (branch c a b then else) i =
+      (i .1, either-in (flip flips (compare c (getD registers a 0) (comparand registers b))) nodes then else (i .3) (i .4))
+  named (ret a) i = (i, h)
+  named stop i = (omega arith, h)
 
 -- the effect that the code computes
 pub effect-from : (table inputs : List ℕ) (room : ℕ) (fault : Fault) (state : State) {e : Effect} {flips : Bool} → flips ≡ inverts fault (state .branches) → e ≡ effectOf (state .registers) inputs (state .reads) (state .node) flips (nodeAt table (state .node)) → e ≡ effectFrom (settingOf table inputs room) fault state
@@ -65,7 +63,11 @@ module _ (table inputs : List ℕ) (room budget : ℕ) (fault : Fault) (state : 
   unfolding effectFrom
   small ready eq =
       let i = ready .inside in
-      rw eq (small-of (state .registers) inputs (state .reads) (state .node) (inverts fault (state .branches)) (i .nodes) (i .inside) (nodeAt table (state .node)) (i .node-in _ (i .inside)))
+      let node = nodeAt table (state .node) in
+      let flips = inverts fault (state .branches) in
+      let n = named (state .registers) inputs (state .reads) (state .node) flips (i .nodes) (i .inside) node (i .node-in _ (i .inside)) in
+      rw eq
+      (record { register = n .0; next = n .1; counts = counts (state .registers) inputs (state .reads) (state .node) flips node })
 
   -- a state that a run can be in is followed by another
   pub ready-applied : Ready table budget state → state .steps < budget → e ≡ effectFrom (settingOf table inputs room) fault state → Ready table budget (applied state e)

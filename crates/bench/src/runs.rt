@@ -3,8 +3,10 @@ ghost use mathlib.Core.Path.{_≡_};
 ghost use Prim.Native.Nat.{_+_, _-_, _≤_};
 ghost use mathlib.Core.Bool.{true};
 ghost use mathlib.Core.List.{[], _∷_};
-ghost use lib.ListN.{length};
+ghost use lib.ListN.{length, replicate};
 ghost use Rattle.words.specs.Buffer.{put};
+ghost use Rattle.bench.specs.Steps.{start};
+ghost use Rattle.bench.specs.Runs.{stateOf};
 ghost use Rattle.bench.specs.Effects.{hasRoom, eventWords, statusAfter};
 ghost use Rattle.bench.specs.Ready.{Ready, settingOf, restOf, endedOf, statusOf};
 use crate::Fault;
@@ -137,5 +139,24 @@ pub fn proceed(
         outcome: Outcome::Spent,
         state,
         words,
+    }
+}
+
+fn zeros() -> [u32; 64]
+    ensures { λ r. ⌜ r ≡ replicate 64 0 ⌝ }
+{
+    [0; 64]
+}
+
+// The state that a run starts in.
+pub fn start(entry: usize) -> State
+    ensures { λ r. ⌜ r ≡ stateOf (start entry) ⌝ }
+{
+    State {
+        registers: zeros(),
+        node: entry,
+        steps: 0,
+        branches: 0,
+        reads: 0,
     }
 }
