@@ -3,4 +3,5 @@ pub mod Effects
 pub mod Bounds
 pub mod Rounds
 pub mod Turns
+pub mod Pairs
 pub mod Checked

@@ -1,3 +1,4 @@
--- Laws of the arguments and of the texts.
+-- Laws of the arguments, of the texts and of what they are made of.
 mod Cells
+mod Answers
 mod Rows

@@ -1,5 +1,6 @@
 // What the programs do between their arguments and standard input and what they print.
 mod arguments;
+mod graphs;
 mod lines;
 mod listing;
 

@@ -1,0 +1,103 @@
+-- A run's answer and buffer hold what its text says.
+-- Assumes nothing.
+use mathlib.Core.Path.{_≡_, refl, sym, ap, _∙_}
+use mathlib.Core.Bool.{Bool, true, false}
+use mathlib.Core.List.{List, [], _∷_, _++_}
+use Prim.Native.Nat.{ℕ, zero, suc, _+_, _*_, _/_, _≤_}
+use native.Mathlib.Omega.{arith}
+use lib.ListN.{length, take, drop}
+use lib.Dec.{leb}
+use lib.Seq.{take-at}
+use Rattle.words.specs.Answer.{Answer, given, refused, demand, andThen, written}
+use Rattle.words.specs.Buffer.{over}
+use Rattle.graph.specs.Checks.{runnableCheck}
+use Rattle.graph.specs.Nodes.{nodeAt}
+use Rattle.graph.specs.declared.Header.{Header}
+use Rattle.bench.specs.declared.Fault.{Fault}
+use Rattle.bench.specs.declared.Outcome.{Outcome}
+use Rattle.bench.specs.declared.RunAnswer.{RunAnswer}
+use Rattle.bench.specs.declared.Verdict.{Verdict}
+use Rattle.bench.specs.declared.Verdict.the-variants.{Ran, Refused}
+use Rattle.bench.specs.Steps.{Setting, Progress}
+use Rattle.bench.specs.Runs.{runOf, settled, answerOf, runAnswer, runEvents, mostSteps}
+use Rattle.bench.proofs.Bounds.{within}
+use Rattle.bench.proofs.Pairs.{Paired, pairs}
+use Rattle.desk.specs.Lines.{runText, refusalLine}
+use Rattle.desk.specs.Programs.{textOf, runOn, progressText}
+
+-- a progress whose events come in pairs and fit
+pub record Sized (room : ℕ) (p : Progress) : Type 0 where
+  pub paired : Paired (p .machine .events)
+  pub fits : length (p .machine .events) ≤ room
+
+module _ (registers nodes entry : ℕ) (table inputs : List ℕ) (room budget : ℕ) (fault : Fault) where
+  abbrev setting : Setting
+  setting = record { graph = nodeAt table; inputs = inputs; room = room }
+
+  made : (p : Progress) (checked : Answer Unit) (small : Bool)
+      → andThen checked (λ _. demand {A = Progress} small 12 0 (given (runOf setting fault entry budget))) ≡ given p → runOf setting fault entry budget ≡ p
+  made p (given tt) true e = cc
+  made p (given tt) false e = let z : _≡_ {A = ℕ} 0 1 = cc in absurd (omega arith)
+  made p (refused number place) small e = let z : _≡_ {A = ℕ} 0 1 = cc in absurd (omega arith)
+
+  -- what a run answers is sized
+  pub sized : (p : Progress) → runAnswer registers nodes entry table inputs room budget fault ≡ given p → Sized room p
+  unfolding runAnswer
+  sized p e =
+      let run = made p (runnableCheck registers nodes entry table) (leb budget mostSteps) e in
+      let whole : Sized room (runOf setting fault entry budget) =
+      record { paired = pairs setting fault entry budget; fits = within setting fault entry budget .events } in
+      rw run at whole
+
+events-are : (events buffer : List ℕ) → Paired events → take (2 * (length events / 2)) (over events buffer) ≡ events
+unfolding over
+events-are events buffer (n, e) = take-at events (drop (length events) buffer) (2 * (length events / 2)) (omega arith)
+
+module _ (buffer : List ℕ) where
+  words-by : (a : Answer Progress) → ((p : Progress) → a ≡ given p → Sized (length buffer) p) → 2 * answerOf a .events ≤ length buffer
+  words-by (given p) good = let s = good p refl in omega arith
+  words-by (refused number place) good = omega arith
+
+  ran-by : (a : Answer Progress) → ((p : Progress) → a ≡ given p → Sized (length buffer) p) → (end : Outcome) → answerOf a .verdict ≡ Ran end
+      → runText end (answerOf a .state) (take (2 * answerOf a .events) (written a (λ p. over (p .machine .events) buffer) buffer)) ≡ textOf a progressText
+  ran-by (given p) good end v =
+      let same : end ≡ settled (p .status) = cc in
+      rw (same, events-are (p .machine .events) buffer (good p refl .paired))
+  ran-by (refused number place) good end v = let z : _≡_ {A = ℕ} 0 1 = cc in absurd (omega arith)
+
+refused-by : (a : Answer Progress) (number place : ℕ) → answerOf a .verdict ≡ Refused number place → refusalLine number place ≡ textOf a progressText
+refused-by (given p) number place v = let z : _≡_ {A = ℕ} 0 1 = cc in absurd (omega arith)
+refused-by (refused m q) number place v =
+    let same : number ≡ m = cc in
+    let there : place ≡ q = cc in
+    rw (same, there)
+
+-- what `run` answered and left in the buffer
+module _ (h : Header) (table inputs buffer : List ℕ) (budget : ℕ) (fault : Fault) (r : RunAnswer) (last : List ℕ)
+    (e : r ≡ answerOf (runAnswer (h .registers) (h .nodes) (h .entry) table inputs (length buffer) budget fault))
+    (f : last ≡ runEvents (h .registers) (h .nodes) (h .entry) table inputs buffer budget fault) where
+  abbrev answer : Answer Progress
+  answer = runAnswer (h .registers) (h .nodes) (h .entry) table inputs (length buffer) budget fault
+
+  abbrev text : List ℕ
+  text = textOf (runOn inputs budget (length buffer) fault (record { header = h; table = table })) progressText
+
+  good : (p : Progress) → answer ≡ given p → Sized (length buffer) p
+  good = sized (h .registers) (h .nodes) (h .entry) table inputs (length buffer) budget fault
+
+  verdict-is : {v : Verdict} → r .verdict ≡ v → answerOf answer .verdict ≡ v
+  verdict-is is = sym (ap (λ (x : RunAnswer). x .verdict) e) ∙ is
+
+  -- the words of the events are in the buffer
+  pub words-fit : 2 * r .events ≤ length buffer
+  words-fit = rw e (words-by buffer answer good)
+
+  -- a run that was made is told
+  pub ran-text : (end : Outcome) → r .verdict ≡ Ran end → runText end (r .state) (take (2 * r .events) last) ≡ text
+  unfolding runEvents runOn
+  ran-text end v = rw (e, f) (ran-by buffer answer good end (verdict-is v))
+
+  -- a refused one is refused in text
+  pub refused-text : (number place : ℕ) → r .verdict ≡ Refused number place → refusalLine number place ≡ text
+  unfolding runOn
+  refused-text number place v = refused-by answer number place (verdict-is v)
