@@ -1,48 +1,66 @@
--- What an accepted file holds, number by number.
+-- What an accepted file holds, from R to the last node; every other file is refused by one of the reader's refusals.
 -- Assumes nothing.
-use mathlib.Core.Path.{_≡_, refl, sym, ap, _∙_}
-use mathlib.Core.Bool.{Bool, true, false, cond, _&&_}
+use mathlib.Core.Path.{_≡_, refl}
 use mathlib.Core.List.{List}
 use Prim.Native.Nat.{ℕ, _+_, _*_, _≤_, _<_}
 use native.Mathlib.Omega.{arith}
 use lib.ListN.{length}
-use lib.Dec.{eqb, leb}
+use lib.Dec.{leb}
 use borrow.Author.Tests.{leb-true}
-use Rattle.words.specs.Answer.{Answer, given, refused, demand, andThen}
-use Rattle.words.specs.Number.{Reading, numberAt}
-use Rattle.graph.specs.declared.Role.{Role}
+use Rattle.words.specs.Answer.{Answer, given, refused}
+use Rattle.words.specs.Number.{Reading}
+use Rattle.words.proofs.Answers.{Of, of-given, of-refused, of-demand, of-then}
+use Rattle.words.proofs.Numbers.{Numbered}
+use Rattle.graph.specs.declared.Header.{Header}
 use Rattle.graph.specs.declared.Role.the-variants.{Target}
-use Rattle.graph.specs.Limits.{runnable}
-use Rattle.graph.specs.Kinds.{fault, inRange}
-use Rattle.file.specs.Reading.{Cells, Contents, countAt, fieldAt, cellsFrom, bodyOf, contentsOf}
+use Rattle.file.specs.Reading.{Cells, Contents, bodyOf, contentsOf}
+use Rattle.file.proofs.Sizes.{here-first}
+use Rattle.file.proofs.Refusals.{Refusal, no-room, bytes-after, Counted, count-law, Celled, field-law}
+use Rattle.file.proofs.InOrder.{InOrder, cells-law, in-order-end}
 
--- a value was given only if one was given before it
-pub then-given : {A B : Type 0} (answer : Answer A) (f : A → Answer B) {b : B} → andThen answer f ≡ given b →
-    (a : A) × (answer ≡ given a) × (f a ≡ given b)
-then-given (given a) f e = (a, refl, e)
-then-given (refused number place) f e = let z : _≡_ {A = ℕ} 0 1 = cc in absurd (omega arith)
+-- R, N, room, the entry, and the words of the nodes up to the end of the bytes
+pub record Accepted (bytes : List ℕ) (room : ℕ) (c : Contents) : Type 0 where
+  pub r : Reading
+  pub n : Reading
+  pub e : Reading
+  pub next : ℕ
+  pub registers : Counted bytes 64 0 r
+  pub nodes : Counted bytes 2050 (r .next) n
+  pub room-for : 6 * n .value ≤ room
+  pub entry : Celled bytes (r .value) (n .value) Target (n .next) e
+  pub words : InOrder bytes (r .value) (n .value) (6 * n .value) 0 0 (e .next) (c .words) next
+  pub whole : length bytes ≤ next
+  pub early : e .next ≤ 5
+  pub header : c .header ≡ record { registers = r .value; nodes = n .value; entry = e .value }
 
-pub demand-given : {A : Type 0} (test : Bool) (number place : ℕ) (next : Answer A) {a : A} → demand test number place next ≡ given a →
-    (test ≡ true) × (next ≡ given a)
-demand-given true number place next e = (refl, e)
-demand-given false number place next e = let z : _≡_ {A = ℕ} 0 1 = cc in absurd (omega arith)
-
-pub cond-given : {A : Type 0} (test : Bool) (next : Answer A) (number place : ℕ) {a : A} → cond test next (refused number place) ≡ given a →
-    (test ≡ true) × (next ≡ given a)
-cond-given true next number place e = (refl, e)
-cond-given false next number place e = let z : _≡_ {A = ℕ} 0 1 = cc in absurd (omega arith)
-
--- a count is a number from 1 to its limit
-pub count-given : (bytes : List ℕ) (limit at : ℕ) {r : Reading} → countAt bytes limit at ≡ given r →
-    (numberAt bytes at ≡ given r) × (1 ≤ r .value) × (r .value ≤ limit)
-unfolding countAt
-count-given bytes limit at e =
-    let t = then-given (numberAt bytes at) _ e in
-    let d = demand-given (inRange 1 limit (t .0 .value)) 3 at (given (t .0)) (t .2) in
-    ?
-
--- a field is a number in order in its role
-pub field-given : (bytes : List ℕ) (registers nodes : ℕ) (role : Role) (at : ℕ) {r : Reading} → fieldAt bytes registers nodes role at ≡ given r →
-    (numberAt bytes at ≡ given r) × (fault 8 registers nodes role (r .value) ≡ 0)
-unfolding fieldAt
-field-given bytes registers nodes role at e = ?
+pub contents-law : (bytes : List ℕ) (room : ℕ) → Of (Accepted bytes room) Refusal (contentsOf bytes room)
+unfolding contentsOf bodyOf
+contents-law bytes room =
+    of-then _ (count-law bytes 64 0 (omega arith)) λ r er registers.
+    let one : r .next ≤ 1 = registers .law .tight 0 (omega arith) in
+    of-then _ (count-law bytes 2050 (r .next) one) λ n en nodes.
+    let three : n .next ≤ 3 = omega (arith, nodes .law .tight 1 (omega arith)) in
+    of-demand (leb (6 * n .value) room) 4 (6 * n .value) _
+    (λ fits.
+    of-then _ (field-law bytes (r .value) (n .value) (registers .within) (nodes .within) Target (n .next) refl (omega arith)) λ e ee entry.
+    let early : e .next ≤ 5 = omega arith in
+    of-then _ (cells-law bytes (r .value) (n .value) (registers .within) (nodes .within) (e .next) early (6 * n .value) 0 0 (e .next) (omega arith) (here-first (e .next))) λ c ec words.
+    let end : c .next ≤ e .next + 12 * n .value = in-order-end bytes (r .value) (n .value) (e .next) (omega arith) (here-first (e .next)) words in
+    of-demand (leb (length bytes) (c .next)) 10 (c .next) _
+    (λ whole.
+    of-given (record {
+      r = r;
+      n = n;
+      e = e;
+      next = c .next;
+      registers = registers;
+      nodes = nodes;
+      room-for = leb-true _ _ fits;
+      entry = entry;
+      words = words;
+      whole = leb-true _ _ whole;
+      early = early;
+      header = refl;
+    }))
+    (λ _. bytes-after (omega (arith, nodes .within))))
+    (λ _. no-room (omega (arith, nodes .within)))

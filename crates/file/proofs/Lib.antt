@@ -3,5 +3,7 @@ pub mod Thens
 pub mod Fields
 pub mod Walks
 pub mod Verdicts
-pub mod Accepted
+pub mod Refusals
 pub mod Sizes
+pub mod InOrder
+pub mod Accepted

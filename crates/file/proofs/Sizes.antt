@@ -29,6 +29,15 @@ unfoldable pub used : ℕ → ℕ → ℕ
 used kind zero = 0
 used kind (suc word) = used kind word + size (roleAt kind word)
 
+used-suc : (kind word : ℕ) → used kind (suc word) ≡ used kind word + size (roleAt kind word)
+unfolding used
+used-suc kind word = refl
+
+-- the kind is one byte
+pub used-one : (kind : ℕ) → (used kind 0 ≡ 0) × (used kind 1 ≡ 1)
+unfolding roleAt used
+used-one kind = (refl, refl)
+
 -- the longest node is a branch of kind 4: 1 + 1 + 1 + 5 + 2 + 2 bytes
 used-node : (kind : ℕ) → (used kind 5 ≤ 10) × (used kind 6 ≤ 12)
 unfolding layouts roleAt used
@@ -43,9 +52,8 @@ used-node (suc (suc (suc (suc (suc (suc (suc zero))))))) = (lit≤ tt, lit≤ tt
 used-node (suc (suc (suc (suc (suc (suc (suc (suc kind)))))))) = (lit≤ tt, lit≤ tt)
 
 used-more : (kind word k : ℕ) → used kind word ≤ used kind (word + k)
-unfolding used
 used-more kind word zero = rw add-zero (omega arith)
-used-more kind word (suc k) = let h : used kind word ≤ used kind (word + k) = used-more kind word k in rw add-suc (omega arith)
+used-more kind word (suc k) = rw add-suc (omega (arith, used-more kind word k, used-suc kind (word + k)))
 
 -- a word of a node begins at most 10 bytes after the node
 pub used-before : (kind word : ℕ) → word ≤ 5 → used kind word ≤ 10
@@ -68,6 +76,15 @@ pub here-next : (first i kind at v next : ℕ) → Here first i kind at → next
 here-next first i kind at v next h n = by (ℕ-discrete (i % 6) 0) (ℕ-discrete (i % 6) 5)
   where
     by : Dec (i % 6 ≡ 0) → Dec (i % 6 ≡ 5) → Here first (i + 1) (kindAfter (i % 6) v kind) next
-    by (yes z) f = ?
-    by (no z) (yes f) = ?
-    by (no z) (no f) = ?
+    by (yes z) f =
+        let word : (i + 1) % 6 ≡ 1 = omega arith in
+        let node : (i + 1) / 6 ≡ i / 6 = omega arith in
+        rw (word, node, eq-eqb (i % 6) 0 z) (omega (arith, rw z at h, rw z at n, used-one v, used-one kind, used-suc kind 0))
+    by (no z) (yes f) =
+        let word : (i + 1) % 6 ≡ 0 = omega arith in
+        let node : (i + 1) / 6 ≡ i / 6 + 1 = omega arith in
+        rw (word, node, ne-eqb (i % 6) 0 z) (omega (arith, rw f at h, rw f at n, used-suc kind 5, used-node kind))
+    by (no z) (no f) =
+        let word : (i + 1) % 6 ≡ suc (i % 6) = omega arith in
+        let node : (i + 1) / 6 ≡ i / 6 = omega arith in
+        rw (word, node, ne-eqb (i % 6) 0 z) (omega (arith, used-suc kind (i % 6)))

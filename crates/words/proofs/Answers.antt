@@ -1,7 +1,8 @@
 -- What holds of an answer: P of a value given, Q of a refusal's number and place; and how it is carried through the checks.
 -- Assumes nothing.
-use mathlib.Core.Path.{_≡_, refl, subst}
-use mathlib.Core.Bool.{Bool, true, false, cond}
+use mathlib.Core.Path.{_≡_, refl, sym, subst}
+use mathlib.Core.Bool.{Bool, true, false, cond, _||_, _&&_, true≢false}
+use mathlib.Core.Logic.{_⊎_, inl, inr}
 use Prim.Native.Nat.{ℕ}
 use Rattle.words.specs.Answer.{Answer, given, refused, demand, andThen}
 
@@ -46,3 +47,12 @@ pub of-map : {A : Type 0} {P P' : A → Type 0} {Q Q' : ℕ → ℕ → Type 0} 
     ((a : A) → P a → P' a) → ((number place : ℕ) → Q number place → Q' number place) → Of P Q answer → Of P' Q' answer
 of-map p q (of-given {a = a} h) = of-given (p a h)
 of-map p q (of-refused {number = number} {place = place} h) = of-refused (q number place h)
+
+-- what two tests tell
+pub both : (a b : Bool) → (a && b) ≡ true → (a ≡ true) × (b ≡ true)
+both true b h = (refl, h)
+both false b h = (h, absurd (true≢false (sym h)))
+
+pub either : (a b : Bool) → (a || b) ≡ true → (a ≡ true) ⊎ (b ≡ true)
+either true b h = inl refl
+either false b h = inr h

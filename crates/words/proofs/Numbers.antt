@@ -1,9 +1,9 @@
 -- Laws of a read number: where it ends, how large it is, how it is refused, and that only its own bytes count.
 -- Assumes nothing.
 use mathlib.Core.Path.{_≡_, refl, sym, ap, _∙_}
-use mathlib.Core.Bool.{Bool, true, false, cond, _||_, _&&_, true≢false}
+use mathlib.Core.Bool.{Bool, true, false, cond, _||_, _&&_}
 use mathlib.Core.List.{List, [], _∷_}
-use mathlib.Core.Logic.{_⊎_, inl, inr, ⊎-elim}
+use mathlib.Core.Logic.{_⊎_, ⊎-elim}
 use Prim.Native.Nat.{ℕ, zero, suc, _+_, _*_, _-_, _%_, _^_, _≤_, _<_}
 use native.Mathlib.Nat.{one-le-pow, pow-le-pow-right}
 use native.Mathlib.Decide.{decLt}
@@ -17,7 +17,7 @@ use Rattle.words.specs.Number.{Reading, reading, byteAt, carry, groups, 
 use Rattle.words.specs.declared.Number.{Number}
 use Rattle.words.specs.declared.Number.the-variants.{Value}
 use Rattle.words.proofs.Ways.{inside-of}
-use Rattle.words.proofs.Answers.{Of, of-given, of-refused, of-demand, of-cond, of-map, when-given}
+use Rattle.words.proofs.Answers.{Of, of-given, of-refused, of-demand, of-cond, of-map, when-given, both, either}
 
 -- what holds of the groups read at a position of the number that begins at `place`, when `more` bytes may follow
 pub record Groups (bytes : List ℕ) (place more at : ℕ) (r : Reading) : Type 0 where
@@ -28,17 +28,10 @@ pub record Groups (bytes : List ℕ) (place more at : ℕ) (r : Reading) : Type 
   pub some : place < at → 0 < r .value
   pub tight : place ≤ at → (k : ℕ) → r .value < 128 ^ suc k → r .next ≤ at + suc k
 
--- a number's refusal is 1 or 2, at the number's offset
-abbrev pub Malformed : ℕ → ℕ → ℕ → Type 0
-Malformed at number place = (1 ≤ number) × (number ≤ 2) × (place ≡ at)
-
-both : (a b : Bool) → (a && b) ≡ true → (a ≡ true) × (b ≡ true)
-both true b h = (refl, h)
-both false b h = (h, absurd (true≢false (sym h)))
-
-either : (a b : Bool) → (a || b) ≡ true → (a ≡ true) ⊎ (b ≡ true)
-either true b h = inl refl
-either false b h = inr h
+-- a number's refusal, at the number's offset
+pub data Malformed (at : ℕ) : ℕ → ℕ → Type 0 where
+  cut-off : Malformed at 1 at
+  not-shortest : Malformed at 2 at
 
 module _ (bytes : List ℕ) (place more at : ℕ) where
   -- the last group: the byte itself
@@ -71,9 +64,8 @@ pub groups-law : (bytes : List ℕ) (place more at : ℕ) →
 unfolding groups
 groups-law bytes place zero at =
     of-demand (ltb b 256) 1 place _
-    (λ t. of-demand (ltb 0 b && ltb b 16) 2 place _ (λ u. of-given (fifth (ltb-true b 256 t) (both _ _ u)))
-    (λ _. (omega arith, omega arith, refl)))
-    (λ _. (omega arith, omega arith, refl))
+    (λ t. of-demand (ltb 0 b && ltb b 16) 2 place _ (λ u. of-given (fifth (ltb-true b 256 t) (both _ _ u))) (λ _. not-shortest))
+    (λ _. cut-off)
   where
     b : ℕ
     b = byteAt bytes at
@@ -83,15 +75,12 @@ groups-law bytes place zero at =
 groups-law bytes place (suc more) at =
     of-demand (ltb b 256) 1 place _
     (λ t. of-cond (ltb b 128) _ _
-    (λ s. of-demand (ltb 0 b || eqb at place) 2 place _ (λ u. of-given (last (ltb-true b 128 s) (either _ _ u))) (λ _. wrong))
+    (λ s. of-demand (ltb 0 b || eqb at place) 2 place _ (λ u. of-given (last (ltb-true b 128 s) (either _ _ u))) (λ _. not-shortest))
     (λ _. of-carry bytes place more at (b % 128) (omega arith) (groups-law bytes place more (at + 1))))
-    (λ _. (omega arith, omega arith, refl))
+    (λ _. cut-off)
   where
     b : ℕ
     b = byteAt bytes at
-
-    wrong : Malformed place 2 place
-    wrong = (omega arith, omega arith, refl)
 
     last : b < 128 → (ltb 0 b ≡ true) ⊎ (eqb at place ≡ true) → Groups bytes place (suc more) at (record { value = b; next = at + 1 })
     last s u =
