@@ -7,3 +7,4 @@ pub mod Refusals
 pub mod Sizes
 pub mod InOrder
 pub mod Accepted
+pub mod Written

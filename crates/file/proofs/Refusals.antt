@@ -47,7 +47,7 @@ count-law bytes limit at h =
     of-then _ (of-map (λ r l. l) (λ n p m. malformed-at n p at (omega arith) m) (number-law bytes at)) λ r e l.
     of-demand (inRange 1 limit (r .value)) 3 at (given r)
     (λ t. let b = both (leb 1 (r .value)) (leb (r .value) limit) t in
-          of-given (record { is = e; law = l; some = leb-true _ _ (b .0); within = leb-true _ _ (b .1) }))
+    of-given (record { is = e; law = l; some = leb-true _ _ (b .0); within = leb-true _ _ (b .1) }))
     (λ _. count-over h)
 
 -- a word of a node

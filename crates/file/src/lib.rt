@@ -1,6 +1,7 @@
 // The file: reading a graph from bytes into a lent table.
 mod numbers; // numbers.rt: one number by its role
 mod passes; // passes.rt: the checks, and the words that are written after them
+
 use graph::Header;
 use words::Number;
 ghost use mathlib.Core.Path.{_≡_};

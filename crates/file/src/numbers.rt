@@ -1,7 +1,7 @@
 // One number of a file by its role: its checks, and how it is taken once it is checked.
+use super::Taken;
 use graph::Limits;
 use graph::Role;
-use super::Taken;
 use words::Number;
 ghost use mathlib.Core.Path.{_≡_};
 ghost use Rattle.words.specs.Number.{readingOf};
@@ -83,10 +83,7 @@ pub fn taken(bytes: &[u8], at: usize) -> Taken
 {
     let number = words::number_at(bytes, at);
     let Number::Value(value, next) = number else {
-        return Taken {
-            value: 0,
-            next: at,
-        };
+        return Taken { value: 0, next: at };
     };
     Taken { value, next }
 }
@@ -98,9 +95,6 @@ pub fn taken_cell(bytes: &[u8], role: Role, at: usize) -> Taken
     if stands(role) {
         taken(bytes, at)
     } else {
-        Taken {
-            value: 0,
-            next: at,
-        }
+        Taken { value: 0, next: at }
     }
 }

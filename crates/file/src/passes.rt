@@ -1,9 +1,9 @@
 // The two passes over a file: the first checks and writes nothing, the second writes what was checked.
+use super::Verdict;
+use super::numbers;
 use graph::Header;
 use graph::Limits;
 use graph::Role;
-use super::numbers;
-use super::Verdict;
 use words::Number;
 ghost use mathlib.Core.Path.{_≡_};
 ghost use Prim.Native.Nat.{_^_, _≤_, _<_};
@@ -15,7 +15,13 @@ ghost use Rattle.file.specs.Reading.{readOf, cellsFrom, bodyOf, contents
 ghost use Rattle.file.specs.Passes.{endOf, passed, takenFrom};
 
 // Checks so many words of nodes, and answers the position after the last.
-pub fn check_cells(bytes: &[u8], registers: usize, nodes: usize, count: usize, first: usize) -> Number
+pub fn check_cells(
+    bytes: &[u8],
+    registers: usize,
+    nodes: usize,
+    count: usize,
+    first: usize,
+) -> Number
     ensures { λ r. ⌜ readingOf r ≡ endOf (cellsFrom (now (bytes .entry)) registers nodes count 0 0 first) ⌝ }
 {
     let mut i: usize = 0;

@@ -1,38 +1,30 @@
+-- `file::read` meets its contract: the first pass decides, the second writes what is accepted. Assumes nothing.
+use denote.Ref.{now}
+use Rattle.file.proofs.Written.{check-passed, refused-answer, refused-table}
 use borrow.Author.Needs.{needs}
 use Rattle.file.proofs.read.Statement.{statement}
 use Rattle.file.proofs.read.Tie as tie
-use Rattle.file.proofs.read.Reads as reads
-use Rattle.file.proofs.read.Lts as lts
-use Rattle.file.proofs.passes.check.Reads as check-reads
-use Rattle.file.proofs.passes.write.Reads as write-reads
 
--- src/lib.rt:27:9
 check-requires : tie.Need-check-requires
 check-requires c κs = search needs
 
--- src/lib.rt:29:53
 enum-told : tie.Need-enum-told
 enum-told c = search needs
 
--- src/lib.rt:29:32
 write-requires : tie.Need-write-requires
-write-requires c κs = ?
+write-requires c κs = check-passed _ _ _ _ (c .before .enum-told .given .1) (c .before .before .before .check .ensures)
 
--- src/lib.rt:30:25
 enum-known-answer : tie.Need-enum-known-answer
 enum-known-answer c = search needs
 
--- src/lib.rt:23:1
 same-length : tie.Need-same-length
 same-length c = search needs
 
--- src/lib.rt:23:1
 returns : tie.Need-returns
 returns c = search needs
 
--- src/lib.rt:23:1
 returns-2 : tie.Need-returns-2
-returns-2 c = ?
+returns-2 c = (refused-answer _ (now (c .before .before .before .before .before .before .args .table)) _ _ (c .before .answer .given .1) (c .before .before .before .check .ensures), refused-table _ (now (c .before .before .before .before .before .before .args .table)) _ _ (c .before .answer .given .1) (c .before .before .before .check .ensures))
 
 pub read-spec : {M : Type 1} → statement M
 read-spec =
