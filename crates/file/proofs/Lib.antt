@@ -8,3 +8,6 @@ pub mod Sizes
 pub mod InOrder
 pub mod Accepted
 pub mod Written
+pub mod Runnable
+pub mod Reader
+pub mod Cuts

@@ -56,7 +56,7 @@ pub record Celled (bytes : List ℕ) (registers nodes : ℕ) (role : Role) (at :
   pub in-order : fault 8 registers nodes role (r .value) ≡ 0
   pub short : r .next ≤ at + size role
 
-cond-zero : (test : Bool) (n : ℕ) → cond test 0 (suc n) ≡ 0 → test ≡ true
+pub cond-zero : (test : Bool) (n : ℕ) → cond test 0 (suc n) ≡ 0 → test ≡ true
 cond-zero true n e = refl
 cond-zero false n e = absurd (omega arith)
 
