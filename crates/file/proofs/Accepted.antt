@@ -2,18 +2,15 @@
 -- Assumes nothing.
 use mathlib.Core.Path.{_≡_, refl}
 use mathlib.Core.List.{List}
-use Prim.Native.Nat.{ℕ, _+_, _*_, _≤_, _<_}
+use Prim.Native.Nat.{ℕ, _+_, _*_, _≤_}
 use native.Mathlib.Omega.{arith}
 use lib.ListN.{length}
 use lib.Dec.{leb}
 use borrow.Author.Tests.{leb-true}
-use Rattle.words.specs.Answer.{Answer, given, refused}
 use Rattle.words.specs.Number.{Reading}
-use Rattle.words.proofs.Answers.{Of, of-given, of-refused, of-demand, of-then}
-use Rattle.words.proofs.Numbers.{Numbered}
-use Rattle.graph.specs.declared.Header.{Header}
+use Rattle.words.proofs.Answers.{Of, of-given, of-demand, of-then}
 use Rattle.graph.specs.declared.Role.the-variants.{Target}
-use Rattle.file.specs.Reading.{Cells, Contents, bodyOf, contentsOf}
+use Rattle.file.specs.Reading.{Contents, bodyOf, contentsOf}
 use Rattle.file.proofs.Sizes.{here-first}
 use Rattle.file.proofs.Refusals.{Refusal, no-room, bytes-after, Counted, count-law, Celled, field-law}
 use Rattle.file.proofs.InOrder.{InOrder, cells-law, in-order-end}

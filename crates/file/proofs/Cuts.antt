@@ -1,24 +1,23 @@
 -- A file longer than 32,768 bytes and its first 32,768 bytes are refused alike: no number that the reader comes to reaches that far.
 -- Assumes nothing.
-use mathlib.Core.Path.{_≡_, refl, sym, ap, _∙_}
-use mathlib.Core.List.{List, [], _∷_}
-use Prim.Native.Nat.{ℕ, zero, suc, _+_, _*_, _/_, _%_, _≤_, _<_}
+use mathlib.Core.Path.{_≡_, refl, ap}
+use mathlib.Core.List.{List}
+use Prim.Native.Nat.{ℕ, zero, suc, _+_, _*_, _%_, _≤_, _<_}
 use native.Mathlib.Omega.{arith}
 use lib.ListN.{length, take}
 use lib.Seq.{length-take-le}
 use lib.Dec.{leb}
 use borrow.Author.Tests.{lt-leb}
 use Rattle.words.specs.Answer.{Answer, given, refused, demand, andThen}
-use Rattle.words.specs.Number.{Reading, reading, numberAt}
 use Rattle.words.proofs.Answers.{when-given}
 use Rattle.words.proofs.Numbers.{number-take}
 use Rattle.graph.specs.declared.Role.{Role}
 use Rattle.graph.specs.declared.Role.the-variants.{Target}
 use Rattle.graph.specs.Kinds.{roleAt}
-use Rattle.file.specs.Reading.{Cells, Contents, before, stands, kindAfter, countAt, fieldAt, cellAt, cellsFrom, bodyOf, contentsOf, readAnswer, readTable}
+use Rattle.file.specs.Reading.{before, kindAfter, countAt, fieldAt, cellAt, cellsFrom, bodyOf, contentsOf, readAnswer, readTable}
 use Rattle.file.proofs.Sizes.{used, used-before, Here, here-first, here-next}
-use Rattle.file.proofs.Refusals.{Counted, count-law, Celled, field-law, cell-law}
-use Rattle.file.proofs.InOrder.{InOrder, cells-law, in-order-end}
+use Rattle.file.proofs.Refusals.{count-law, field-law, cell-law}
+use Rattle.file.proofs.InOrder.{cells-law, in-order-end}
 
 -- two ways to go on that agree at the value that is given
 then-same : {A B : Type 0} (answer : Answer A) (f g : A → Answer B) → ((a : A) → answer ≡ given a → f a ≡ g a) → andThen answer f ≡ andThen answer g

@@ -1,20 +1,20 @@
 -- The ways through one number of a file: R or N within its limit or not, a field in order or not.
 -- Assumes nothing.
-use mathlib.Core.Path.{_≡_, refl, sym, ap, _∙_}
-use mathlib.Core.Bool.{Bool, true, false, cond, _&&_}
+use mathlib.Core.Path.{_≡_, sym, ap, _∙_}
+use mathlib.Core.Bool.{cond, _&&_}
 use mathlib.Core.List.{List}
-use Prim.Native.Nat.{ℕ, _+_, _≤_, _<_}
+use Prim.Native.Nat.{ℕ, _≤_, _<_}
 use native.Mathlib.Omega.{arith}
 use lib.Dec.{eqb, leb}
 use borrow.Author.Tests.{le-leb, lt-leb, eq-eqb, ne-eqb}
-use Rattle.words.specs.Answer.{Answer, given, refused, demand}
-use Rattle.words.specs.Number.{Reading, reading, readingOf, numberAt}
+use Rattle.words.specs.Answer.{refused, demand}
+use Rattle.words.specs.Number.{reading, readingOf, numberAt}
 use Rattle.words.specs.declared.Number.{Number}
-use Rattle.words.specs.declared.Number.the-variants.{Value, Refused}
+use Rattle.words.specs.declared.Number.the-variants.{Value}
 use Rattle.graph.specs.declared.Limits.{Limits}
 use Rattle.graph.specs.declared.Role.{Role}
 use Rattle.graph.specs.Limits.{runnable}
-use Rattle.graph.specs.Kinds.{fault, inRange}
+use Rattle.graph.specs.Kinds.{fault}
 use Rattle.file.specs.Reading.{countAt, fieldAt}
 use Rattle.file.proofs.Thens.{then-value}
 

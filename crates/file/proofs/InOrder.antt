@@ -1,20 +1,20 @@
 -- The nodes of an accepted file, word by word: where they end, how many words they are, and what the second pass takes of them.
 -- Assumes nothing.
-use mathlib.Core.Path.{_≡_, refl, sym, ap, _∙_}
+use mathlib.Core.Path.{_≡_, refl, ap, _∙_}
 use mathlib.Core.Bool.{Bool, true, false, cond}
 use mathlib.Core.List.{List, [], _∷_}
-use Prim.Native.Nat.{ℕ, zero, suc, _+_, _*_, _/_, _%_, _≤_, _<_}
+use Prim.Native.Nat.{ℕ, zero, suc, _+_, _*_, _%_, _≤_}
 use native.Mathlib.Omega.{arith}
 use lib.ListN.{length}
-use Rattle.words.specs.Answer.{Answer, given, refused}
+use Rattle.words.specs.Answer.{Answer, given}
 use Rattle.words.specs.Number.{Reading, reading, numberAt}
 use Rattle.words.proofs.Answers.{Of, of-given, of-refused, of-then}
 use Rattle.graph.specs.declared.Role.{Role}
 use Rattle.graph.specs.Kinds.{roleAt}
-use Rattle.file.specs.Reading.{Cells, before, stands, cellAt, kindAfter, cellsFrom}
+use Rattle.file.specs.Reading.{Cells, before, stands, kindAfter, cellsFrom}
 use Rattle.file.specs.declared.Taken.{Taken}
 use Rattle.file.specs.Passes.{takenOf, takenAt, takenCell, takenFrom}
-use Rattle.file.proofs.Sizes.{size, used, used-one, used-before, Here, here-next}
+use Rattle.file.proofs.Sizes.{used, used-one, used-before, Here, here-next}
 use Rattle.file.proofs.Refusals.{Refusal, Celled, cell-law}
 
 -- so many words in order from index i on, in a node of this kind, that stand from a position to the next

@@ -11,3 +11,4 @@ pub mod Written
 pub mod Runnable
 pub mod Reader
 pub mod Cuts
+pub mod Vectors

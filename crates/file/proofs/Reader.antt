@@ -1,13 +1,13 @@
 -- Theorems on the reader: what it accepts is a runnable graph, how long an accepted file can be, and how any other is refused.
 -- Assumes nothing.
-use mathlib.Core.Path.{_≡_, refl, sym, ap, _∙_}
+use mathlib.Core.Path.{_≡_, refl}
 use mathlib.Core.List.{List, _++_}
-use Prim.Native.Nat.{ℕ, _+_, _*_, _≤_, _<_}
+use Prim.Native.Nat.{ℕ, _+_, _*_, _≤_}
 use native.Mathlib.Omega.{arith}
 use lib.ListN.{length, drop}
-use Rattle.words.specs.Answer.{Answer, given, refused, andThen}
+use Rattle.words.specs.Answer.{given, refused}
 use Rattle.words.specs.Buffer.{over}
-use Rattle.words.proofs.Answers.{Of, of-given, of-refused, of-then, when-given, when-refused}
+use Rattle.words.proofs.Answers.{Of, of-given, of-then, when-given, when-refused}
 use Rattle.graph.specs.declared.Header.{Header}
 use Rattle.graph.specs.Checks.{runnableCheck}
 use Rattle.file.specs.Reading.{Contents, contentsOf, readAnswer, readTable}
@@ -39,6 +39,18 @@ module _ (bytes : List ℕ) (room : ℕ) where
   -- Every refusal has one of the reader's numbers, at a place where it can be given.
   pub refusals : (number place : ℕ) → readAnswer bytes room ≡ refused number place → Refusal number place
   refusals number place e = when-refused e (answer-law bytes room)
+
+module _ (bytes : List ℕ) (room : ℕ) (c : Contents) (e : contentsOf bytes room ≡ given c) where
+  accepted : Accepted bytes room c
+  accepted = when-given e (contents-law bytes room)
+
+  -- The words of an accepted file are six for each node.
+  pub six-words : length (c .words) ≡ 6 * c .header .nodes
+  six-words = rw (accepted .header) (in-order-length bytes (accepted .r .value) (accepted .n .value) (accepted .words))
+
+  -- They are a runnable graph's, whatever follows them in a table.
+  pub contents-runnable : (rest : List ℕ) → runnableCheck (c .header .registers) (c .header .nodes) (c .header .entry) (c .words ++ rest) ≡ given tt
+  contents-runnable rest = accepted-runnable bytes rest accepted
 
 -- What the reader accepts, the check of a runnable graph accepts, with the same R, N and entry, and the table that is then held.
 pub read-runnable : (bytes table : List ℕ) (header : Header) → readAnswer bytes (length table) ≡ given header →

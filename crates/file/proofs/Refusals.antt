@@ -1,20 +1,18 @@
 -- How the reader refuses, and what holds of the numbers that it accepts by their roles.
 -- Assumes nothing.
-use mathlib.Core.Path.{_≡_, refl, sym, ap, _∙_}
-use mathlib.Core.Bool.{Bool, true, false, cond, _&&_, true≢false}
+use mathlib.Core.Path.{_≡_, refl, sym}
+use mathlib.Core.Bool.{Bool, true, false, cond, true≢false}
 use mathlib.Core.List.{List}
-use Prim.Native.Nat.{ℕ, zero, suc, _+_, _*_, _/_, _%_, _^_, _≤_, _<_}
+use Prim.Native.Nat.{ℕ, suc, _+_, _^_, _≤_, _<_}
 use native.Mathlib.Omega.{arith}
-use lib.ListN.{length}
 use lib.Dec.{eqb, ltb, leb}
 use borrow.Author.Tests.{leb-true, ltb-true, eqb-true, eqb-false}
-use Rattle.words.specs.Answer.{Answer, given, refused, demand, andThen}
+use Rattle.words.specs.Answer.{given, refused}
 use Rattle.words.specs.Number.{Reading, reading, numberAt}
 use Rattle.words.proofs.Answers.{Of, of-given, of-refused, of-demand, of-cond, of-then, of-map, both}
 use Rattle.words.proofs.Numbers.{Numbered, Malformed, cut-off, not-shortest, number-law}
 use Rattle.graph.specs.declared.Role.{Role}
 use Rattle.graph.specs.declared.Role.the-variants.{Kind, Operator, Comparison, Port, Register, Target, Free, Spare}
-use Rattle.graph.specs.Limits.{runnable}
 use Rattle.graph.specs.Kinds.{fault, inRange}
 use Rattle.file.specs.Reading.{stands, countAt, fieldAt, cellAt}
 use Rattle.file.proofs.Sizes.{size}

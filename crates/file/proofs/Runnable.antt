@@ -1,25 +1,22 @@
 -- What the reader accepts, the check of a runnable graph accepts, with the same R, N, entry and words.
 -- Assumes nothing.
-use mathlib.Core.Path.{_≡_, refl, sym, ap, _∙_}
-use mathlib.Core.Bool.{Bool, true, false, cond}
+use mathlib.Core.Path.{_≡_, refl, _∙_}
+use mathlib.Core.Bool.{true}
 use mathlib.Core.List.{List, [], _∷_, _++_, append-assoc}
-use Prim.Native.Nat.{ℕ, zero, suc, _+_, _*_, _/_, _%_, _≤_, _<_}
+use Prim.Native.Nat.{ℕ, _+_, _*_, _/_, _%_, _≤_, _<_}
 use native.Mathlib.Decide.{ℕ-discrete}
 use native.Mathlib.Omega.{arith}
 use lib.ListN.{length, getD, length-append, List·getD-append}
 use lib.Seq.{getD-at}
-use lib.Dec.{eqb, ltb, leb}
-use borrow.Author.Tests.{le-leb, lt-ltb, eq-eqb, ne-eqb}
-use Rattle.words.specs.Answer.{Answer, given, refused}
-use Rattle.words.specs.Number.{Reading}
-use Rattle.words.proofs.Answers.{when-given}
-use Rattle.graph.specs.declared.Header.{Header}
+use lib.Dec.{ltb}
+use borrow.Author.Tests.{le-leb, eq-eqb, ne-eqb}
+use Rattle.words.specs.Answer.{given}
 use Rattle.graph.specs.Kinds.{roleAt, fault}
 use Rattle.graph.specs.Checks.{faultAt, wordsFrom, tableCheck, runnableCheck}
-use Rattle.file.specs.Reading.{Contents, kindAfter, contentsOf}
-use Rattle.file.proofs.Refusals.{Counted, Celled, cond-zero}
+use Rattle.file.specs.Reading.{Contents, kindAfter}
+use Rattle.file.proofs.Refusals.{cond-zero}
 use Rattle.file.proofs.InOrder.{InOrder, none, more, in-order-length}
-use Rattle.file.proofs.Accepted.{Accepted, contents-law}
+use Rattle.file.proofs.Accepted.{Accepted}
 
 -- past its word 0, the node of word i has this kind
 abbrev KindOf : List ℕ → ℕ → ℕ → Type 0
@@ -66,15 +63,16 @@ pub accepted-runnable : (bytes rest : List ℕ) {room : ℕ} {c : Contents} → 
 unfolding runnableCheck tableCheck
 accepted-runnable bytes rest {c = c} a =
     let long : 6 * a .n .value ≤ length (c .words ++ rest) =
-        omega (arith, length-append (c .words) rest, in-order-length bytes (a .r .value) (a .n .value) (a .words))
+    omega (arith, length-append (c .words) rest, in-order-length bytes (a .r .value) (a .n .value) (a .words))
     in
     let entry : ltb (a .e .value) (a .n .value) ≡ true = cond-zero (ltb (a .e .value) (a .n .value)) 6 (a .entry .in-order) in
     rw (
-    a .header,
-    le-leb 1 (a .r .value) (a .registers .some),
-    le-leb (a .r .value) 64 (a .registers .within),
-    le-leb 1 (a .n .value) (a .nodes .some),
-    le-leb (a .n .value) 2050 (a .nodes .within),
-    le-leb (6 * a .n .value) (length (c .words ++ rest)) long,
-    entry)
+      a .header,
+      le-leb 1 (a .r .value) (a .registers .some),
+      le-leb (a .r .value) 64 (a .registers .within),
+      le-leb 1 (a .n .value) (a .nodes .some),
+      le-leb (a .n .value) 2050 (a .nodes .within),
+      le-leb (6 * a .n .value) (length (c .words ++ rest)) long,
+      entry,
+    )
     (in-order-checked (a .r .value) (a .n .value) bytes [] rest refl (λ z. absurd (z refl)) (a .words))

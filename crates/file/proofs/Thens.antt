@@ -1,9 +1,9 @@
 -- What follows a read number, by the case that the code took apart.
 -- Assumes nothing.
-use mathlib.Core.Path.{_≡_, refl, sym, ap, _∙_}
+use mathlib.Core.Path.{_≡_, sym, ap, _∙_}
 use Prim.Native.Nat.{ℕ}
-use Rattle.words.specs.Answer.{Answer, given, refused, andThen}
-use Rattle.words.specs.Number.{Reading, reading, readingOf}
+use Rattle.words.specs.Answer.{Answer, refused, andThen}
+use Rattle.words.specs.Number.{Reading, readingOf}
 use Rattle.words.specs.declared.Number.{Number}
 use Rattle.words.specs.declared.Number.the-variants.{Value, Refused}
 

@@ -1,14 +1,14 @@
 -- The two passes over the words of a table, step by step: what is left to check, and what is left to write.
 -- Assumes nothing.
 use mathlib.Core.Path.{_≡_, refl, sym, ap, _∙_}
-use mathlib.Core.List.{List, [], _∷_}
-use Prim.Native.Nat.{ℕ, zero, suc, _+_, _-_, _%_, _≤_, _<_}
+use mathlib.Core.List.{List}
+use Prim.Native.Nat.{ℕ, suc, _+_, _-_, _%_, _≤_, _<_}
 use native.Mathlib.Numerals.{add-one}
 use native.Mathlib.Omega.{arith}
 use lib.ListN.{set}
-use Rattle.words.specs.Answer.{Answer, given, refused, andThen}
+use Rattle.words.specs.Answer.{Answer, given, refused}
 use Rattle.words.specs.Buffer.{put}
-use Rattle.words.specs.Number.{Reading, reading, readingOf}
+use Rattle.words.specs.Number.{reading, readingOf}
 use Rattle.words.specs.declared.Number.{Number}
 use Rattle.words.specs.declared.Number.the-variants.{Value, Refused}
 use Rattle.graph.specs.declared.Role.{Role}

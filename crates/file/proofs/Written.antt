@@ -2,17 +2,16 @@
 -- Assumes nothing.
 use mathlib.Core.Path.{_≡_, refl, sym, ap, _∙_}
 use mathlib.Core.List.{List}
-use Prim.Native.Nat.{ℕ, _+_, _*_, _≤_}
+use Prim.Native.Nat.{ℕ, _*_, _≤_}
 use native.Mathlib.Omega.{arith}
 use lib.ListN.{length}
-use Rattle.words.specs.Answer.{Answer, given, refused, andThen, written}
-use Rattle.words.specs.Buffer.{over, put}
+use Rattle.words.specs.Answer.{Answer, given, refused}
+use Rattle.words.specs.Buffer.{put}
 use Rattle.words.specs.Number.{Reading, readingOf, numberAt}
 use Rattle.words.specs.declared.Number.{Number}
 use Rattle.words.specs.declared.Number.the-variants.{Value, Refused}
 use Rattle.words.proofs.Answers.{when-given}
 use Rattle.words.proofs.Puts.{put-over}
-use Rattle.graph.specs.declared.Header.{Header}
 use Rattle.file.specs.declared.Taken.{Taken}
 use Rattle.file.specs.Reading.{Contents, contentsOf, readAnswer, readTable}
 use Rattle.file.specs.Passes.{passed, takenOf, takenAt, takenFrom}

@@ -1,9 +1,9 @@
 -- The reader's two passes: the first checks and writes nothing, the second writes what was checked.
 -- Assumes nothing.
-use Prim.Native.Nat.{ℕ, zero, suc, _+_, _*_, _%_}
+use Prim.Native.Nat.{ℕ, zero, suc, _+_, _%_}
 use mathlib.Core.Bool.{cond}
 use mathlib.Core.List.{List, [], _∷_}
-use Rattle.words.specs.Answer.{Answer, given, refused, andThen}
+use Rattle.words.specs.Answer.{Answer, given, refused}
 use Rattle.words.specs.Number.{Reading, reading, numberAt}
 use Rattle.graph.specs.declared.Role.{Role}
 use Rattle.graph.specs.Kinds.{roleAt}

@@ -80,14 +80,14 @@ pub fn check(bytes: &[u8], room: usize) -> Number
 }
 
 // Writes so many words of nodes into the front of the table.
-pub fn write_cells(bytes: &[u8], count: usize, first: usize, table: &mut [u32])
-    requires { ⌜ count ≤ length (now table) ⌝ }
-    ensures { λ _. ⌜ now (table .exit) ≡ put (now (table .entry)) 0 (takenFrom (now (bytes .entry)) count 0 0 first) ⌝ }
+pub fn write_cells(bytes: &[u8], words: usize, first: usize, table: &mut [u32])
+    requires { ⌜ words ≤ length (now table) ⌝ }
+    ensures { λ _. ⌜ now (table .exit) ≡ put (now (table .entry)) 0 (takenFrom (now (bytes .entry)) words 0 0 first) ⌝ }
 {
     let mut i: usize = 0;
     let mut kind: u32 = 0;
     let mut at = first;
-    while i < count {
+    while i < words {
         let word = i % 6;
         let cell = numbers::taken_cell(bytes, graph::role_at(kind, word), at);
         table[i] = cell.value;
@@ -103,14 +103,16 @@ pub fn write(bytes: &[u8], table: &mut [u32]) -> Verdict
     ensures { λ r. ⌜ readOf r ≡ readAnswer (now (bytes .entry)) (length (now (table .entry))) ⌝ }
     ensures { λ _. ⌜ now (table .exit) ≡ readTable (now (bytes .entry)) (now (table .entry)) ⌝ }
 {
-    let registers = numbers::taken(bytes, 0);
-    let nodes = numbers::taken(bytes, registers.next);
-    let entry = numbers::taken(bytes, nodes.next);
-    let n = nodes.value as usize;
-    write_cells(bytes, 6 * n, entry.next, table);
+    let r = numbers::taken(bytes, 0);
+    let n = numbers::taken(bytes, r.next);
+    let e = numbers::taken(bytes, n.next);
+    let registers = r.value as usize;
+    let nodes = n.value as usize;
+    let entry = e.value as usize;
+    write_cells(bytes, 6 * nodes, e.next, table);
     Verdict::Graph(Header {
-        registers: registers.value as usize,
-        nodes: n,
-        entry: entry.value as usize,
+        registers,
+        nodes,
+        entry,
     })
 }

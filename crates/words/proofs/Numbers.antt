@@ -1,18 +1,17 @@
 -- Laws of a read number: where it ends, how large it is, how it is refused, and that only its own bytes count.
 -- Assumes nothing.
 use mathlib.Core.Path.{_≡_, refl, sym, ap, _∙_}
-use mathlib.Core.Bool.{Bool, true, false, cond, _||_, _&&_}
-use mathlib.Core.List.{List, [], _∷_}
+use mathlib.Core.Bool.{true, _||_, _&&_}
+use mathlib.Core.List.{List}
 use mathlib.Core.Logic.{_⊎_, ⊎-elim}
 use Prim.Native.Nat.{ℕ, zero, suc, _+_, _*_, _-_, _%_, _^_, _≤_, _<_}
 use native.Mathlib.Nat.{one-le-pow, pow-le-pow-right}
-use native.Mathlib.Decide.{decLt}
 use native.Mathlib.Omega.{arith}
-use lib.ListN.{length, take, getD, List·getD-eq-default}
+use lib.ListN.{length, take}
 use lib.Seq.{getD-take}
 use lib.Dec.{eqb, ltb}
-use borrow.Author.Tests.{ltb-true, ltb-false, eqb-true, eqb-false}
-use Rattle.words.specs.Answer.{Answer, given, refused, demand}
+use borrow.Author.Tests.{ltb-true, eqb-true}
+use Rattle.words.specs.Answer.{Answer}
 use Rattle.words.specs.Number.{Reading, reading, byteAt, carry, groups, numberAt, readingOf}
 use Rattle.words.specs.declared.Number.{Number}
 use Rattle.words.specs.declared.Number.the-variants.{Value}

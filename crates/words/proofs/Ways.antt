@@ -1,10 +1,10 @@
 -- The ways through one group of a number: what `groups` is where the byte is cut off, is the fifth, is a last one, or has
 -- others after it; b is the byte at the position.
 -- Assumes nothing.
-use mathlib.Core.Path.{_≡_, refl, sym, ap, _∙_}
-use mathlib.Core.Bool.{true, false, cond, _||_, _&&_}
+use mathlib.Core.Path.{_≡_, refl, ap, _∙_}
+use mathlib.Core.Bool.{_||_, _&&_}
 use mathlib.Core.List.{List, [], _∷_}
-use Prim.Native.Nat.{ℕ, zero, suc, _+_, _*_, _-_, _%_, _≤_, _<_}
+use Prim.Native.Nat.{ℕ, zero, suc, _+_, _-_, _%_, _≤_, _<_}
 use native.Mathlib.Nat.{le-of-suc-le-suc, not-suc-le-zero}
 use native.Mathlib.Numerals.{sub-one}
 use native.Mathlib.Decide.{decLt}
@@ -12,7 +12,7 @@ use native.Mathlib.Omega.{arith}
 use lib.ListN.{length, getD, List·getD-eq-default}
 use lib.Dec.{eqb, ltb}
 use borrow.Author.Tests.{lt-ltb, le-ltb}
-use Rattle.words.specs.Answer.{Answer, given, refused, demand}
+use Rattle.words.specs.Answer.{Answer, refused, demand}
 use Rattle.words.specs.Number.{Reading, reading, byteAt, carry, groups}
 
 -- below the length the default does not matter

@@ -1,5 +1,5 @@
 -- `file::numbers::taken` meets its contract, by the two cases of a number. Assumes nothing.
-use mathlib.Core.Path.{sym, ap, _∙_}
+use mathlib.Core.Path.{sym}
 use borrow.Author.Needs.{needs}
 use Rattle.file.proofs.numbers.taken.Statement.{statement}
 use Rattle.file.proofs.numbers.taken.Tie as tie

@@ -1,7 +1,7 @@
 -- `file::passes::write_cells` meets its contract. The loop's invariant: the words from the first on, put into the table
 -- that was lent, are the words from i on put into the table as it is. Assumes nothing.
-use mathlib.Core.Path.{_≡_, refl, sym, ap, _∙_}
-use Prim.Native.Nat.{ℕ, _-_, _≤_}
+use mathlib.Core.Path.{_≡_, refl, sym, _∙_}
+use Prim.Native.Nat.{_-_, _≤_}
 use native.Mathlib.Nat.{sub-zero}
 use native.Mathlib.Omega.{arith}
 use borrow.Author.Needs.{needs}
@@ -13,10 +13,10 @@ use Rattle.file.proofs.passes.write_cells.Statement.{statement}
 use Rattle.file.proofs.passes.write_cells.Tie as tie
 
 abbrev Inv-loop : tie.InvT-loop
-Inv-loop bytes count first table₀ i₀ kind₀ at₀ table i kind at = (i ≤ count) × (length table ≡ length table₀) × (put table₀ 0 (takenFrom bytes count 0 0 first) ≡ put table i (takenFrom bytes (count - i) i kind at))
+Inv-loop bytes words first table₀ i₀ kind₀ at₀ table i kind at = (i ≤ words) × (length table ≡ length table₀) × (put table₀ 0 (takenFrom bytes words 0 0 first) ≡ put table i (takenFrom bytes (words - i) i kind at))
 
 abbrev μ-loop : tie.MeasureT-loop
-μ-loop bytes count first table₀ i₀ kind₀ at₀ table i kind at = count - i
+μ-loop bytes words first table₀ i₀ kind₀ at₀ table i kind at = words - i
 
 loop-holds : tie.Need-loop-holds Inv-loop μ-loop
 loop-holds c = (omega arith, refl, rw sub-zero)

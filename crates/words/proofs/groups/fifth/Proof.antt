@@ -1,7 +1,7 @@
 -- `words::groups::fifth` meets its contract, by the tests that led to each answer. Assumes nothing.
 use borrow.Author.Tests.{lt-ltb, le-ltb}
 use native.Mathlib.Omega.{arith}
-use Prim.Native.Nat.{_<_, _≤_}
+use Prim.Native.Nat.{_<_}
 use Rattle.words.proofs.groups.fifth.Statement.{statement}
 use Rattle.words.proofs.groups.fifth.Tie as tie
 
