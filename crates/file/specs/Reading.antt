@@ -1,10 +1,10 @@
 -- Document 01, "The file" and "Refusal numbers and the order of checks": what the reader makes of bytes.
 -- Assumes nothing.
 use Prim.Native.Nat.{ℕ, zero, suc, _+_, _*_, _%_}
-use mathlib.Core.Bool.{Bool, cond}
+use mathlib.Core.Bool.{Bool, true, false, cond}
 use mathlib.Core.List.{List, [], _∷_}
 use lib.ListN.{length}
-use lib.Dec.{eqb, ltb, leb}
+use lib.Dec.{eqb, leb}
 use Rattle.words.specs.Answer.{Answer, given, refused, demand, andThen, written}
 use Rattle.words.specs.Buffer.{over}
 use Rattle.words.specs.Number.{Reading, reading, numberAt}
@@ -13,13 +13,19 @@ use Rattle.graph.specs.declared.Role.{Role}
 use Rattle.graph.specs.declared.Role.the-variants.{Kind, Operator, Comparison, Port, Register, Target, Free, Spare}
 use Rattle.graph.specs.Limits.{runnable}
 use Rattle.graph.specs.Kinds.{roleAt, fault, inRange}
-use Rattle.file.specs.declared.Read.{Read}
-use Rattle.file.specs.declared.Read.the-variants.{Graph, Refused}
+use Rattle.file.specs.declared.Verdict.{Verdict}
+use Rattle.file.specs.declared.Verdict.the-variants.{Graph, Refused}
 
 -- document 01's numbers for each case of a read
-abbrev pub readOf : Read → Answer Header
+abbrev pub readOf : Verdict → Answer Header
 readOf (Graph header) = given header
 readOf (Refused number place) = refused number place
+
+-- R or N: a number from 1 to its limit, or 3 at its offset
+unfoldable pub countAt : List ℕ → ℕ → ℕ → Answer Reading
+countAt bytes limit at =
+    andThen (numberAt bytes at) λ r.
+    demand (inRange 1 limit (r .value)) 3 at (given r)
 
 -- a number in order in its role: 1 and 2, then its range, all at its offset
 unfoldable pub fieldAt : List ℕ → ℕ → ℕ → Role → ℕ → Answer Reading
@@ -28,16 +34,25 @@ fieldAt bytes registers nodes role at =
     let number = fault (runnable .kinds) registers nodes role (r .value) in
     cond (eqb number 0) (given r) (refused number at)
 
+-- whether a word of a node stands in the file: spare words do not
+abbrev pub stands : Role → Bool
+stands Kind = true
+stands Operator = true
+stands Comparison = true
+stands Port = true
+stands Register = true
+stands Target = true
+stands Free = true
+stands Spare = false
+
 -- a word of a node: a field, or a spare word, which takes no bytes and is 0
-abbrev pub cell : List ℕ → ℕ → ℕ → Role → ℕ → Answer Reading
-cell bytes registers nodes Spare at = reading 0 at
-cell bytes registers nodes Kind at = fieldAt bytes registers nodes Kind at
-cell bytes registers nodes Operator at = fieldAt bytes registers nodes Operator at
-cell bytes registers nodes Comparison at = fieldAt bytes registers nodes Comparison at
-cell bytes registers nodes Port at = fieldAt bytes registers nodes Port at
-cell bytes registers nodes Register at = fieldAt bytes registers nodes Register at
-cell bytes registers nodes Target at = fieldAt bytes registers nodes Target at
-cell bytes registers nodes Free at = fieldAt bytes registers nodes Free at
+unfoldable pub cellAt : List ℕ → ℕ → ℕ → Role → ℕ → Answer Reading
+cellAt bytes registers nodes role at =
+    cond (stands role) (fieldAt bytes registers nodes role at) (reading 0 at)
+
+-- the kind of a node after its word: what stands in word 0
+abbrev pub kindAfter : ℕ → ℕ → ℕ → ℕ
+kindAfter word value kind = cond (eqb word 0) value kind
 
 -- the words of a table, and the position after the last node
 pub record Cells : Type 0 where
@@ -52,32 +67,29 @@ before w (refused number place) = refused number place
 unfoldable pub cellsFrom : List ℕ → ℕ → ℕ → ℕ → ℕ → ℕ → ℕ → Answer Cells
 cellsFrom bytes registers nodes zero i kind at = given (record { words = []; next = at })
 cellsFrom bytes registers nodes (suc left) i kind at =
-    andThen (cell bytes registers nodes (roleAt kind (i % 6)) at) λ r.
-    before (r .value) (cellsFrom bytes registers nodes left (i + 1) (cond (eqb (i % 6) 0) (r .value) kind) (r .next))
+    andThen (cellAt bytes registers nodes (roleAt kind (i % 6)) at) λ r.
+    before (r .value) (cellsFrom bytes registers nodes left (i + 1) (kindAfter (i % 6) (r .value) kind) (r .next))
 
 -- a graph's R, N and entry, and its words
 pub record Contents : Type 0 where
   pub header : Header
   pub words : List ℕ
 
--- the words after the entry, and no bytes after the last node
-unfoldable pub bodyOf : List ℕ → ℕ → ℕ → ℕ → ℕ → Answer Contents
-bodyOf bytes registers nodes entry at =
-    andThen (cellsFrom bytes registers nodes (6 * nodes) 0 0 at) λ c.
+-- the entry, then each node's kind and fields, and no bytes after the last node
+unfoldable pub bodyOf : List ℕ → ℕ → ℕ → ℕ → Answer Contents
+bodyOf bytes registers nodes at =
+    andThen (fieldAt bytes registers nodes Target at) λ e.
+    andThen (cellsFrom bytes registers nodes (6 * nodes) 0 0 (e .next)) λ c.
     demand (leb (length bytes) (c .next)) 10 (c .next)
-    (given (record { header = record { registers = registers; nodes = nodes; entry = entry }; words = c .words }))
+    (given (record { header = record { registers = registers; nodes = nodes; entry = e .value }; words = c .words }))
 
--- R, N, room right after N, the entry, then each node's kind and fields; 10 last
+-- R, N, room right after N, then the entry and the nodes
 unfoldable pub contentsOf : List ℕ → ℕ → Answer Contents
 contentsOf bytes room =
-    andThen (numberAt bytes 0) λ r.
-    demand (inRange 1 (runnable .registers) (r .value)) 3 0
-    (andThen (numberAt bytes (r .next)) λ n.
-    demand (inRange 1 (runnable .nodes) (n .value)) 3 (r .next)
-    (demand (leb (6 * n .value) room) 4 (6 * n .value)
-    (andThen (numberAt bytes (n .next)) λ e.
-    demand (ltb (e .value) (n .value)) 7 (n .next)
-    (bodyOf bytes (r .value) (n .value) (e .value) (e .next)))))
+    andThen (countAt bytes (runnable .registers) 0) λ r.
+    andThen (countAt bytes (runnable .nodes) (r .next)) λ n.
+    demand (leb (6 * n .value) room) 4 (6 * n .value)
+    (bodyOf bytes (r .value) (n .value) (n .next))
 
 -- what reading into a table of this length answers
 unfoldable pub readAnswer : List ℕ → ℕ → Answer Header

@@ -1,3 +1,7 @@
 -- Laws that every crate above uses.
 pub mod Puts
 pub mod Arms
+pub mod Ways
+pub mod Answers
+pub mod Numbers
+pub mod Vectors

@@ -1,11 +1,10 @@
 -- Laws of upward writes: two in a row are one, and a whole that fits lies over the buffer's first words.
 -- Assumes nothing.
 use mathlib.Core.Path.{_≡_, refl, sym, ap, _∙_}
-use Prim.Native.Nat.{ℕ, zero, suc, _+_, _≤_}
-use native.Mathlib.Numerals.{add-one}
+use Prim.Native.Nat.{ℕ, suc, _+_, _≤_}
 use native.Mathlib.Nat.{add-zero, add-suc, suc-add, zero-add}
 use mathlib.Core.List.{List, [], _∷_, _++_}
-use lib.ListN.{length, take, drop, set, getD}
+use lib.ListN.{length, drop, set}
 use lib.Seq.{sets, sets-eq, length-sets}
 use Rattle.words.specs.Buffer.{over, put}
 

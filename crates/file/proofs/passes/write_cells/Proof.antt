@@ -1,0 +1,70 @@
+-- `file::passes::write_cells` meets its contract. The loop's invariant: the words from the first on, put into the table
+-- that was lent, are the words from i on put into the table as it is. Assumes nothing.
+use mathlib.Core.Path.{_≡_, refl, sym, _∙_}
+use Prim.Native.Nat.{_-_, _≤_}
+use native.Mathlib.Nat.{sub-zero}
+use native.Mathlib.Omega.{arith}
+use borrow.Author.Needs.{needs}
+use lib.ListN.{length, length-set}
+use Rattle.words.specs.Buffer.{put}
+use Rattle.file.specs.Passes.{takenFrom}
+use Rattle.file.proofs.Walks.{taken-more, taken-none}
+use Rattle.file.proofs.passes.write_cells.Statement.{statement}
+use Rattle.file.proofs.passes.write_cells.Tie as tie
+
+abbrev Inv-loop : tie.InvT-loop
+Inv-loop bytes words first table₀ i₀ kind₀ at₀ table i kind at = (i ≤ words) × (length table ≡ length table₀) × (put table₀ 0 (takenFrom bytes words 0 0 first) ≡ put table i (takenFrom bytes (words - i) i kind at))
+
+abbrev μ-loop : tie.MeasureT-loop
+μ-loop bytes words first table₀ i₀ kind₀ at₀ table i kind at = words - i
+
+loop-holds : tie.Need-loop-holds Inv-loop μ-loop
+loop-holds c = (omega arith, refl, rw sub-zero)
+
+role-at-requires : tie.Need-role-at-requires Inv-loop μ-loop
+role-at-requires c κs = search needs
+
+taken-cell-requires : tie.Need-taken-cell-requires Inv-loop μ-loop
+taken-cell-requires c κs = search needs
+
+mul-table : tie.Need-mul-table Inv-loop μ-loop
+mul-table c = omega arith
+
+slice-write-table : tie.Need-slice-write-table Inv-loop μ-loop
+slice-write-table c = omega arith
+
+kind-after-requires : tie.Need-kind-after-requires Inv-loop μ-loop
+kind-after-requires c κs = search needs
+
+add-i : tie.Need-add-i Inv-loop μ-loop
+add-i c = omega arith
+
+loop-less : tie.Need-loop-less Inv-loop μ-loop
+loop-less c = omega arith
+
+loop-again : tie.Need-loop-again Inv-loop μ-loop
+loop-again c = (omega arith, simp length-set (c .before .before .before .before .loop .inv .1), c .before .before .before .before .loop .inv .2 ∙ taken-more _ _ _ _ _ _ _ _ _ (c .before .before .before .loop-test .taken) (c .before .before .role-at .ensures) (c .before .taken-cell .ensures) (c .kind-after .ensures))
+
+same-length : tie.Need-same-length Inv-loop μ-loop
+same-length c = c .before .loop .inv .1
+
+returns : tie.Need-returns Inv-loop μ-loop
+returns c = sym (c .before .loop .inv .2 ∙ taken-none _ _ _ _ _ _ (c .loop-test .left))
+
+pub write-cells-spec : {M : Type 1} → statement M
+write-cells-spec =
+    tie.close
+    (tie.spec
+    Inv-loop
+    μ-loop
+    loop-holds
+    role-at-requires
+    taken-cell-requires
+    mul-table
+    slice-write-table
+    kind-after-requires
+    add-i
+    loop-less
+    loop-again
+    same-length
+    returns)
