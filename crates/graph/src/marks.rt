@@ -7,8 +7,11 @@ ghost use Rattle.graph.specs.Marks.{marksOf, Grown};
 ghost use Rattle.graph.specs.Checks.{checkOf, unmarkedFrom};
 use super::Check;
 
-// No mark at all, with room for every node of a source.
-pub fn none() -> [u8; 256]
+// Room for a mark of every node of a source.
+pub type Marks = [u8; 256];
+
+// No mark at all.
+pub fn none() -> Marks
     ensures { λ r. ⌜ marksOf r ≡ replicate 256 false ⌝ }
 {
     [0u8; 256]

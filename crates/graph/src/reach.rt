@@ -37,7 +37,7 @@ fn sweep(marks: &mut [u8], nodes: usize, table: &[u32]) -> usize
 }
 
 // The marks of what is reached from the entry.
-pub fn reached(nodes: usize, entry: usize, table: &[u32]) -> [u8; 256]
+pub fn reached(nodes: usize, entry: usize, table: &[u32]) -> marks::Marks
     requires { ⌜ nodes ≤ 256 ⌝ }
     ensures { λ r. ⌜ ((n : ℕ) → n < nodes → marked (marksOf r) n ≡ marked (reached (nodeAt (now (table .entry))) nodes entry) n) ⌝ }
 {
