@@ -1,0 +1,2 @@
+-- Theorems on blocks, signatures and the hardened graph, and the laws that the functions' proofs use.
+pub mod Count
