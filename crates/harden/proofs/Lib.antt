@@ -1,2 +1,3 @@
 -- Theorems on blocks, signatures and the hardened graph, and the laws that the functions' proofs use.
 pub mod Count
+pub mod Rows

@@ -110,7 +110,7 @@ firstRow s = go (const (s .registers) (sign s (s .entry))) (s .entry)
 
 -- all nodes: the source nodes, node N, the catch, the groups in ascending order of source node
 unfoldable pub hardenedRows : Source → List Node
-hardenedRows s = sourceRows s (s .nodes) ++ (firstRow s ∷ stop ∷ []) ++ groupRows s (s .nodes)
+hardenedRows s = sourceRows s (s .nodes) ++ firstRow s ∷ stop ∷ groupRows s (s .nodes)
 
 -- row i of them
 unfoldable pub rowAt : Source → ℕ → Node
