@@ -1,0 +1,46 @@
+-- Laws of the writers: words, half rows and rows written one after the other are written at once.
+-- Assumes nothing.
+use Prim.Native.Nat.{ℕ, zero, suc, _+_, _*_, _≤_}
+use native.Mathlib.Numerals.{add-one, add-two}
+use native.Mathlib.Omega.{arith}
+use mathlib.Core.Path.{_≡_, refl, sym, ap, _∙_}
+use mathlib.Core.List.{List, [], _∷_, _++_, append-assoc}
+use lib.ListN.{length, set}
+use Rattle.words.specs.Buffer.{put, over}
+use Rattle.words.proofs.Puts.{put-at, put-over, put-nil}
+use Rattle.graph.specs.Nodes.{Node, wordsOf}
+use Rattle.harden.specs.Hardened.{tableOf}
+use Rattle.harden.specs.Passes.{putRows}
+use Rattle.harden.proofs.Count.{table-length}
+
+pub three-words : (l₀ : List ℕ) {l₁ l₂ l₃ : List ℕ} (i x y z : ℕ) →
+    l₁ ≡ set l₀ i x → l₂ ≡ set l₁ (i + 1) y → l₃ ≡ set l₂ (i + 2) z → l₃ ≡ put l₀ i (x ∷ y ∷ z ∷ [])
+unfolding put
+three-words l₀ i x y z p q r = r ∙ rw (q, p, add-one, add-two)
+
+pub two-halves : (l₀ : List ℕ) {l₁ l₂ : List ℕ} (i u v w x y z : ℕ) →
+    l₁ ≡ put l₀ i (u ∷ v ∷ w ∷ []) → l₂ ≡ put l₁ (i + 3) (x ∷ y ∷ z ∷ []) → l₂ ≡ put l₀ i (u ∷ v ∷ w ∷ x ∷ y ∷ z ∷ [])
+two-halves l₀ i u v w x y z p q = q ∙ rw p (put-at l₀ i (i + 3) (u ∷ v ∷ w ∷ []) (x ∷ y ∷ z ∷ []) refl)
+
+pub table-append : (xs ys : List Node) → tableOf (xs ++ ys) ≡ tableOf xs ++ tableOf ys
+table-append [] ys = refl
+table-append (x ∷ xs) ys = ap (λ (ws : List ℕ). wordsOf x ++ ws) (table-append xs ys) ∙ sym (append-assoc (wordsOf x) (tableOf xs) (tableOf ys))
+
+-- rows written right after rows
+pub more-rows : (l₀ : List ℕ) {l₁ l₂ : List ℕ} (n m : ℕ) (xs ys : List Node) →
+    l₁ ≡ putRows l₀ n xs → l₂ ≡ putRows l₁ m ys → m ≡ n + length xs → l₂ ≡ putRows l₀ n (xs ++ ys)
+unfolding putRows
+more-rows l₀ n m xs ys p q e =
+    q
+    ∙ ap (λ (l : List ℕ). put l (6 * m) (tableOf ys)) p
+    ∙ put-at l₀ (6 * n) (6 * m) (tableOf xs) (tableOf ys) (omega (arith, table-length xs))
+    ∙ ap (put l₀ (6 * n)) (sym (table-append xs ys))
+
+pub no-rows : (l : List ℕ) (n : ℕ) → putRows l n [] ≡ l
+unfolding putRows
+no-rows l n = put-nil l (6 * n)
+
+-- from the front, rows that fit lie over the first words
+pub rows-over : (l : List ℕ) (rows : List Node) → 6 * length rows ≤ length l → putRows l 0 rows ≡ over (tableOf rows) l
+unfolding putRows
+rows-over l rows h = put-over l (tableOf rows) (rw table-length h)
