@@ -2,3 +2,5 @@
 pub mod Count
 pub mod Rows
 pub mod Writes
+pub mod Successors
+pub mod Passes

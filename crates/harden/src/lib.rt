@@ -1,6 +1,7 @@
 // Leaders, ranks, signatures, and the hardened table.
 use graph::Header;
 
+mod leaders;
 mod writing;
 
 // What hardening answers: the hardened graph's R, N and entry, or the refusal's number and place.
