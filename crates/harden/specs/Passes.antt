@@ -10,6 +10,10 @@ use Rattle.graph.specs.Nodes.{Node, go, branch, ret, stop}
 use Rattle.harden.specs.Blocks.{onePlusRank}
 use Rattle.harden.specs.Hardened.{tableOf, prepare, update, check}
 
+-- as many zeros as a source has nodes at most
+unfoldable pub zeros : List ℕ
+zeros = replicate 256 0
+
 -- grades, one a node: 0 without an edge into it, 1 with one, 2 of a leader
 abbrev pub leads : List ℕ → ℕ → Bool
 leads grades n = eqb (getD grades n 0) 2

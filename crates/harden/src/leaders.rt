@@ -1,15 +1,15 @@
 // Which nodes are leaders: one pass over the edges, in which each node gets a grade.
 ghost use Prim.Native.Nat.{_≤_};
 ghost use mathlib.Core.Path.{_≡_};
-ghost use lib.ListN.{getD, set, replicate};
+ghost use lib.ListN.{set};
 ghost use Rattle.graph.specs.Nodes.{nodeAt};
-ghost use Rattle.harden.specs.Passes.{leads, higher, graded, gradesBelow};
+ghost use Rattle.harden.specs.Passes.{zeros, leads, higher, graded, gradesBelow};
 use graph::Successors;
 use super::writing;
 
 // As many zeros as a source has nodes at most.
 pub fn zeros() -> [u32; 256]
-    ensures { λ r. ⌜ r ≡ replicate 256 0 ⌝ }
+    ensures { λ r. ⌜ r ≡ zeros ⌝ }
 {
     [0u32; 256]
 }
@@ -46,7 +46,7 @@ fn grade(grades: &mut [u32], table: &[u32], m: usize)
 // The grades of a source's nodes; the entry is a leader from the start.
 pub fn grades(table: &[u32], nodes: usize, entry: usize) -> [u32; 256]
     requires { ⌜ nodes ≤ 256 ⌝ }
-    ensures { λ r. ⌜ r ≡ gradesBelow (nodeAt (now (table .entry))) (set (replicate 256 0) entry 2) nodes ⌝ }
+    ensures { λ r. ⌜ r ≡ gradesBelow (nodeAt (now (table .entry))) (set zeros entry 2) nodes ⌝ }
 {
     let mut grades = zeros();
     writing::store(&mut grades, entry, 2);

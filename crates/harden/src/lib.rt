@@ -1,6 +1,7 @@
 // Leaders, ranks, signatures, and the hardened table.
 use graph::Header;
 
+mod blocks;
 mod leaders;
 mod writing;
 

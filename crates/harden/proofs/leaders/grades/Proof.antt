@@ -1,13 +1,13 @@
+use Rattle.harden.proofs.Passes.{zeros-length, grades-more}
 use native.Mathlib.Omega.{arith}
-use Rattle.harden.proofs.Passes.{grades-more}
 use mathlib.Core.List.{List}
 use mathlib.Core.Path.{_∙_, sym, ap}
 use Prim.Native.Nat.{ℕ, _≤_, _-_}
 use mathlib.Core.Path.{_≡_}
 use borrow.Author.Needs.{needs}
-use lib.ListN.{length, set, replicate}
+use lib.ListN.{length, set}
 use Rattle.graph.specs.Nodes.{nodeAt}
-use Rattle.harden.specs.Passes.{gradesBelow}
+use Rattle.harden.specs.Passes.{zeros, gradesBelow}
 use Rattle.harden.proofs.leaders.grades.Statement.{statement}
 use Rattle.harden.proofs.leaders.grades.Tie as tie
 use Rattle.harden.proofs.leaders.grades.Reads as reads
@@ -18,7 +18,7 @@ use Rattle.harden.proofs.writing.store.Reads as store-reads
 
 abbrev Inv-loop : tie.InvT-loop
 Inv-loop table nodes entry grades₀ m₀ grades m =
-    (m ≤ nodes) × (grades ≡ gradesBelow (nodeAt table) (set (replicate 256 0) entry 2) m) × (length grades ≡ 256)
+    (m ≤ nodes) × (grades ≡ gradesBelow (nodeAt table) (set zeros entry 2) m) × (length grades ≡ 256)
 
 abbrev μ-loop : tie.MeasureT-loop
 μ-loop table nodes entry grades₀ m₀ grades m = nodes - m
@@ -38,7 +38,7 @@ store-requires c κs = search needs
 -- src/leaders.rt:54:5
 loop-holds : tie.Need-loop-holds Inv-loop μ-loop
 unfolding gradesBelow
-loop-holds c = (search needs, c .before .store .ensures ∙ ap (λ (l : List ℕ). set l (c .before .before .before .before .before .args .entry) 2) (c .before .before .before .zeros .ensures), c .before .store .kept .0 ∙ ap length (c .before .before .before .zeros .ensures))
+loop-holds c = (search needs, c .before .store .ensures ∙ ap (λ (l : List ℕ). set l (c .before .before .before .before .before .args .entry) 2) (c .before .before .before .zeros .ensures), c .before .store .kept .0 ∙ ap length (c .before .before .before .zeros .ensures) ∙ zeros-length)
 
 -- src/leaders.rt:55:15
 slice-aggregate-grade : tie.Need-slice-aggregate-grade Inv-loop μ-loop
