@@ -5,12 +5,13 @@ use native.Mathlib.Numerals.{add-one, add-two}
 use native.Mathlib.Omega.{arith}
 use mathlib.Core.Path.{_≡_, refl, sym, ap, _∙_}
 use mathlib.Core.List.{List, [], _∷_, _++_, append-assoc}
-use lib.ListN.{length, set}
+use lib.ListN.{length, getD, set}
 use Rattle.words.specs.Buffer.{put, over}
 use Rattle.words.proofs.Puts.{put-at, put-over, put-nil}
-use Rattle.graph.specs.Nodes.{Node, wordsOf}
+use Rattle.graph.specs.Nodes.{Node, nodeOf, nodeAt, wordsOf}
+use Rattle.graph.proofs.Rows.{node-kind, row-unknown}
 use Rattle.harden.specs.Hardened.{tableOf}
-use Rattle.harden.specs.Passes.{putRows}
+use Rattle.harden.specs.Passes.{putRows, aimed}
 use Rattle.harden.proofs.Count.{table-length}
 
 pub three-words : (l₀ : List ℕ) {l₁ l₂ l₃ : List ℕ} (i x y z : ℕ) →
@@ -44,3 +45,23 @@ no-rows l n = put-nil l (6 * n)
 pub rows-over : (l : List ℕ) (rows : List Node) → 6 * length rows ≤ length l → putRows l 0 rows ≡ over (tableOf rows) l
 unfolding putRows
 rows-over l rows h = put-over l (tableOf rows) (rw table-length h)
+
+-- a row with other targets, by the kind that was read
+module _ (table : List ℕ) (n first second e : ℕ) (l : List ℕ) {l′ : List ℕ} where
+  pub row-aimed : (kind : ℕ) {read v w x y : ℕ} →
+      v ≡ getD table (6 * n + 1) 0 → w ≡ getD table (6 * n + 2) 0 → x ≡ getD table (6 * n + 3) 0 → y ≡ getD table (6 * n + 4) 0 →
+      read ≡ getD table (6 * n) 0 → read ≡ kind →
+      l′ ≡ put l (6 * e) (wordsOf (aimed first second (nodeOf kind v w x y (getD table (6 * n + 5) 0))) ++ []) →
+      l′ ≡ putRows l e (aimed first second (nodeAt table n) ∷ [])
+  unfolding putRows
+  row-aimed kind {v = v} {w} {x} {y} p q r s t known written =
+      let same : nodeOf kind v w x y (getD table (6 * n + 5) 0) ≡ nodeAt table n = rw (p, q, r, s) (sym (node-kind table n kind (sym t ∙ known))) in
+      written ∙ ap (λ (node : Node). put l (6 * e) (wordsOf (aimed first second node) ++ [])) same
+
+  pub row-stopped : {read : ℕ} → read ≡ getD table (6 * n) 0 → 8 ≤ read →
+      l′ ≡ put l (6 * e) (8 ∷ 0 ∷ 0 ∷ 0 ∷ 0 ∷ 0 ∷ []) → l′ ≡ putRows l e (aimed first second (nodeAt table n) ∷ [])
+  unfolding putRows
+  row-stopped {read} t h written =
+      written
+      ∙ ap (λ (node : Node). put l (6 * e) (wordsOf (aimed first second node) ++ []))
+        (sym (node-kind table n read (sym t) ∙ row-unknown table n read h))

@@ -4,7 +4,7 @@ ghost use mathlib.Core.Path.{_≡_};
 ghost use mathlib.Core.List.{[], _∷_};
 ghost use lib.ListN.{set};
 ghost use Rattle.words.specs.Buffer.{put};
-ghost use Rattle.graph.specs.Nodes.{nodeAt};
+ghost use Rattle.graph.specs.Nodes.{go, const, stop, nodeAt};
 ghost use Rattle.harden.specs.Hardened.{prepare, update, check};
 ghost use Rattle.harden.specs.Passes.{putRows, aimed, arrival};
 
@@ -69,4 +69,35 @@ pub fn arrive(out: &mut [u32], registers: usize, catch: usize, e: usize, sign: u
 {
     update(out, registers, e, e + 1);
     check(out, registers, catch, e + 1, sign, target);
+}
+
+// A source node's row, with other targets.
+pub fn redirect(out: &mut [u32], e: usize, table: &[u32], n: usize, first: u32, second: u32)
+    requires { ⌜ (e < 4096) × (n < 4096) ⌝ }
+    ensures { λ r. ⌜ now (out .exit) ≡ putRows (now (out .entry)) e (aimed first second (nodeAt (now (table .entry)) n) ∷ []) ⌝ }
+{
+    let v = words::word(table, 6 * n + 1);
+    let w = words::word(table, 6 * n + 2);
+    let x = words::word(table, 6 * n + 3);
+    let y = words::word(table, 6 * n + 4);
+    match words::word(table, 6 * n) {
+        0 => row(out, e, 8, 0, 0, 0, 0, 0),
+        1 => row(out, e, 1, v, w, first, 0, 0),
+        2 => row(out, e, 2, v, w, x, y, first),
+        3 => row(out, e, 3, v, w, x, first, second),
+        4 => row(out, e, 4, v, w, x, first, second),
+        5 => row(out, e, 5, v, first, 0, 0, 0),
+        6 => row(out, e, 6, v, w, first, 0, 0),
+        7 => row(out, e, 7, v, 0, 0, 0, 0),
+        8.. => row(out, e, 8, 0, 0, 0, 0, 0),
+    }
+}
+
+// Node N, which sets GSR, and the catch.
+pub fn begin(out: &mut [u32], registers: usize, nodes: usize, entry: usize, sign: u32)
+    requires { ⌜ (registers < 64) × ((nodes < 4000) × (entry < 4096)) ⌝ }
+    ensures { λ r. ⌜ now (out .exit) ≡ putRows (now (out .entry)) nodes (go (const registers sign) entry ∷ stop ∷ []) ⌝ }
+{
+    row(out, nodes, 1, registers as u32, sign, entry as u32, 0, 0);
+    row(out, nodes + 1, 8, 0, 0, 0, 0, 0);
 }
