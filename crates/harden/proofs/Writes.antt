@@ -1,6 +1,7 @@
 -- Laws of the writers: words, half rows and rows written one after the other are written at once.
 -- Assumes nothing.
 use Prim.Native.Nat.{ℕ, zero, suc, _+_, _*_, _≤_}
+use native.Mathlib.Nat.{add-assoc}
 use native.Mathlib.Numerals.{add-one, add-two}
 use native.Mathlib.Omega.{arith}
 use mathlib.Core.Path.{_≡_, refl, sym, ap, _∙_}
@@ -10,8 +11,8 @@ use Rattle.words.specs.Buffer.{put, over}
 use Rattle.words.proofs.Puts.{put-at, put-over, put-nil}
 use Rattle.graph.specs.Nodes.{Node, nodeOf, nodeAt, wordsOf}
 use Rattle.graph.proofs.Rows.{node-kind, row-unknown}
-use Rattle.harden.specs.Hardened.{tableOf}
-use Rattle.harden.specs.Passes.{putRows, aimed}
+use Rattle.harden.specs.Hardened.{tableOf, prepare, update, check, crossingGroup}
+use Rattle.harden.specs.Passes.{putRows, aimed, arrival, retest, branching}
 use Rattle.harden.proofs.Count.{table-length}
 
 pub three-words : (l₀ : List ℕ) {l₁ l₂ l₃ : List ℕ} (i x y z : ℕ) →
@@ -64,4 +65,37 @@ module _ (table : List ℕ) (n first second e : ℕ) (l : List ℕ) {l′ : List
   row-stopped {read} t h written =
       written
       ∙ ap (λ (node : Node). put l (6 * e) (wordsOf (aimed first second node) ++ []))
-        (sym (node-kind table n read (sym t) ∙ row-unknown table n read h))
+      (sym (node-kind table n read (sym t) ∙ row-unknown table n read h))
+
+-- the groups, row after row
+module _ (registers catch e : ℕ) (sign : ℕ → ℕ) (n : ℕ) (l₀ : List ℕ) where
+  pub crossing-written : (l : ℕ) {l₁ l₂ : List ℕ} {s sl : ℕ} →
+      s ≡ sign n → sl ≡ sign l →
+      l₁ ≡ putRows l₀ e (prepare registers s sl (e + 1) ∷ []) → l₂ ≡ putRows l₁ (e + 1) (arrival registers catch (e + 1) sl l) →
+      l₂ ≡ putRows l₀ e (crossingGroup registers catch e (sign n) l (sign l))
+  crossing-written l {s = s} {sl} ps pl p q =
+      rw (← ps, ← pl)
+      (more-rows l₀ e (e + 1) (prepare registers s sl (e + 1) ∷ []) (arrival registers catch (e + 1) sl l) p q refl
+      ∙ ap (λ (k : ℕ). putRows l₀ e (prepare registers s sl (e + 1) ∷ update registers k ∷ check registers sl catch l ∷ [])) (add-assoc e 1 1))
+
+  module _ (node : Node) (t f : ℕ) where
+    pub retest-written : {l₁ l₂ l₃ : List ℕ} {s st sf : ℕ} →
+        s ≡ sign n → st ≡ sign t → sf ≡ sign f →
+        l₁ ≡ putRows l₀ e (prepare registers s st (e + 2) ∷ []) → l₂ ≡ putRows l₁ (e + 1) (prepare registers s sf (e + 2) ∷ []) →
+        l₃ ≡ putRows l₂ (e + 2) (aimed (e + 3) (e + 5) node ∷ []) → l₃ ≡ putRows l₀ e (retest registers e sign n node t f)
+    retest-written {s = s} {st} {sf} ps pt pf p q r =
+        rw (← ps, ← pt, ← pf)
+        (more-rows l₀ e (e + 2) (prepare registers s st (e + 2) ∷ prepare registers s sf (e + 2) ∷ []) (aimed (e + 3) (e + 5) node ∷ [])
+        (more-rows l₀ e (e + 1) (prepare registers s st (e + 2) ∷ []) (prepare registers s sf (e + 2) ∷ []) p q refl)
+        r
+        refl)
+
+    pub branch-written : {l₁ l₂ l₃ : List ℕ} {st sf : ℕ} →
+        st ≡ sign t → sf ≡ sign f →
+        l₁ ≡ putRows l₀ e (retest registers e sign n node t f) → l₂ ≡ putRows l₁ (e + 3) (arrival registers catch (e + 3) st t) →
+        l₃ ≡ putRows l₂ (e + 5) (arrival registers catch (e + 5) sf f) → l₃ ≡ putRows l₀ e (branching registers catch e sign n node t f)
+    branch-written pt pf p q r =
+        more-rows l₀ e (e + 5) (retest registers e sign n node t f ++ arrival registers catch (e + 3) (sign t) t) (arrival registers catch (e + 5) (sign f) f)
+        (more-rows l₀ e (e + 3) (retest registers e sign n node t f) (arrival registers catch (e + 3) (sign t) t) p (rw pt at q) refl)
+        (rw pf at r)
+        refl

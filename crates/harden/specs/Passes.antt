@@ -82,3 +82,18 @@ aimed first second stop = stop
 -- the update at e and the check after it, of an edge to the target
 abbrev pub arrival : (registers catch e sign target : ℕ) → List Node
 arrival registers catch e sign target = update registers (e + 1) ∷ check registers sign catch target ∷ []
+
+-- signatures, one a node
+abbrev pub signed : List ℕ → ℕ → ℕ
+signed signatures n = getD signatures n 0
+
+-- the first three extra nodes of a branch, and all seven
+abbrev pub retest : (registers e : ℕ) → (ℕ → ℕ) → ℕ → Node → (t f : ℕ) → List Node
+retest registers e sign n node t f =
+    prepare registers (sign n) (sign t) (e + 2) ∷ prepare registers (sign n) (sign f) (e + 2) ∷ aimed (e + 3) (e + 5) node ∷ []
+
+abbrev pub branching : (registers catch e : ℕ) → (ℕ → ℕ) → ℕ → Node → (t f : ℕ) → List Node
+branching registers catch e sign n node t f =
+    retest registers e sign n node t f
+    ++ arrival registers catch (e + 3) (sign t) t
+    ++ arrival registers catch (e + 5) (sign f) f

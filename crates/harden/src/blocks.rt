@@ -5,9 +5,9 @@ ghost use mathlib.Core.Bool.{cond};
 ghost use Rattle.graph.specs.Nodes.{nodeAt};
 ghost use Rattle.harden.specs.Blocks.{onePlusRank};
 ghost use Rattle.harden.specs.Passes.{zeros, leads, preceded, precedersBelow, headBy, filled, asLeader, asBlock};
-use graph::Successors;
 use super::leaders;
 use super::writing;
+use graph::Successors;
 
 // The edges of node m, noted at their targets.
 fn precede(preceders: &mut [u32], table: &[u32], m: usize)
@@ -68,7 +68,11 @@ fn next_rank(grades: &[u32], n: usize, rank: usize) -> usize
     requires { ⌜ rank ≤ 256 ⌝ }
     ensures { λ r. ⌜ r ≡ rank + cond (leads (now (grades .entry)) n) 1 0 ⌝ }
 {
-    if leaders::leads(grades, n) { rank + 1 } else { rank }
+    if leaders::leads(grades, n) {
+        rank + 1
+    } else {
+        rank
+    }
 }
 
 // The signature that each node has as a leader.

@@ -4,8 +4,8 @@ ghost use mathlib.Core.Path.{_≡_};
 ghost use lib.ListN.{set};
 ghost use Rattle.graph.specs.Nodes.{nodeAt};
 ghost use Rattle.harden.specs.Passes.{zeros, leads, higher, graded, gradesBelow};
-use graph::Successors;
 use super::writing;
+use graph::Successors;
 
 // As many zeros as a source has nodes at most.
 pub fn zeros() -> [u32; 256]

@@ -2,6 +2,7 @@
 use graph::Header;
 
 mod blocks;
+mod groups;
 mod leaders;
 mod writing;
 
