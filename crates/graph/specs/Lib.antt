@@ -5,3 +5,4 @@ pub mod Successors
 pub mod Paths
 pub mod Accepted
 pub mod Checks
+pub mod Marks

@@ -1,8 +1,10 @@
 // The table: limits, kinds and the roles of their words, successors, and the checks of a runnable and of a source graph.
 ghost use mathlib.Core.Path.{_≡_};
 ghost use Rattle.graph.specs.Limits.{runnable, source};
+ghost use Rattle.graph.specs.Checks.{checkOf, runnableCheck, sourceCheck};
 
 mod kinds;
+mod table;
 
 pub use kinds::fault;
 pub use kinds::role_at;
@@ -79,4 +81,11 @@ pub struct Header {
     pub registers: usize,
     pub nodes: usize,
     pub entry: usize,
+}
+
+// Whether a table holds a runnable graph: accepted, or the first refusal.
+pub fn check_runnable(registers: usize, nodes: usize, entry: usize, table: &[u32]) -> Check
+    ensures { λ r. ⌜ checkOf r ≡ runnableCheck registers nodes entry (now (table .entry)) ⌝ }
+{
+    table::check(Limits::runnable(), registers, nodes, entry, table)
 }
