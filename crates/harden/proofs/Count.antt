@@ -23,7 +23,7 @@ extra-of leads (go action next) = by (leads next)
 extra-of leads (ret a) = refl
 extra-of leads stop = refl
 
-at-most-seven : (crossed : Bool) (node : Node) → extra crossed node ≤ 7
+pub at-most-seven : (crossed : Bool) (node : Node) → extra crossed node ≤ 7
 at-most-seven crossed (branch c a b t f) = omega arith
 at-most-seven true (go action next) = omega arith
 at-most-seven false (go action next) = omega arith

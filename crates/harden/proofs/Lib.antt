@@ -4,3 +4,4 @@ pub mod Rows
 pub mod Writes
 pub mod Successors
 pub mod Passes
+pub mod Turns

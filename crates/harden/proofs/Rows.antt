@@ -11,15 +11,15 @@ use lib.ListN.{length, getD, length-append, List·getD-append}
 use lib.Seq.{getD-append-add, getD-at}
 use Rattle.graph.specs.Nodes.{Node, go, branch, ret, stop, Action, const, op, input, output, Operand, register, constant, nodeOf, nodeAt, wordsOf}
 use Rattle.harden.specs.Blocks.{crosses}
-use Rattle.harden.specs.Hardened.{Source, isLeader, sign, crossing, extra, prepare, update, check, groupOf, ownRow, extraBelow, groupAt, sourceRows, groupRows, firstRow, hardenedRows, rowAt, hardenedCount, tableOf, hardenedTable}
+use Rattle.harden.specs.Hardened.{Source, isLeader, sign, crossing, extra, prepare, update, check, groupOf, ownRow, ownAt, groupFrom, extraBelow, groupAt, sourceRows, groupRows, firstRow, hardenedRows, rowAt, hardenedCount, tableOf, hardenedTable}
 use Rattle.harden.proofs.Count.{group-length, source-rows-length, group-rows-length, rows-length, words-length, table-length}
 
 -- a source node's own row, and its group
 abbrev pub own : Source → ℕ → Node
-own s n = ownRow (groupAt s n) (crossing s n) (s .graph n)
+own s n = ownAt s (groupAt s n) n
 
 abbrev pub group : Source → ℕ → List Node
-group s n = groupOf (s .registers) (s .nodes + 1) (groupAt s n) (sign s) (crossing s n) n (s .graph n)
+group s n = groupFrom s (groupAt s n) n
 
 -- an element of a list that is longer at the end by one
 before : (xs ys : List Node) (n i : ℕ) → length xs ≡ n → i < n → getD (xs ++ ys) i stop ≡ getD xs i stop

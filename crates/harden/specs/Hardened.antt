@@ -93,16 +93,22 @@ extraBelow s (suc n) = extraBelow s n + extra (crossing s n) (s .graph n)
 unfoldable pub groupAt : Source → ℕ → ℕ
 groupAt s n = s .nodes + 2 + extraBelow s n
 
+-- a source node's own row, and its group, e the first of its extra nodes
+abbrev pub ownAt : Source → ℕ → ℕ → Node
+ownAt s e n = ownRow e (crossing s n) (s .graph n)
+
+abbrev pub groupFrom : Source → ℕ → ℕ → List Node
+groupFrom s e n = groupOf (s .registers) (s .nodes + 1) e (sign s) (crossing s n) n (s .graph n)
+
 -- the rows of the source nodes below n
 unfoldable pub sourceRows : Source → ℕ → List Node
 sourceRows s zero = []
-sourceRows s (suc n) = sourceRows s n ++ (ownRow (groupAt s n) (crossing s n) (s .graph n) ∷ [])
+sourceRows s (suc n) = sourceRows s n ++ (ownAt s (groupAt s n) n ∷ [])
 
 -- the groups of the source nodes below n
 unfoldable pub groupRows : Source → ℕ → List Node
 groupRows s zero = []
-groupRows s (suc n) =
-    groupRows s n ++ groupOf (s .registers) (s .nodes + 1) (groupAt s n) (sign s) (crossing s n) n (s .graph n)
+groupRows s (suc n) = groupRows s n ++ groupFrom s (groupAt s n) n
 
 -- node N sets GSR to the entry block's signature and goes to the source entry
 unfoldable pub firstRow : Source → Node

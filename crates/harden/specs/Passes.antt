@@ -10,7 +10,8 @@ use Rattle.words.specs.Buffer.{put}
 use Rattle.graph.specs.Nodes.{Node, go, branch, ret, stop, nodeAt}
 use Rattle.graph.specs.Accepted.{SourceGraph}
 use Rattle.harden.specs.Blocks.{onePlusRank}
-use Rattle.harden.specs.Hardened.{tableOf, prepare, update, check, isLeader, sign, sourceOf}
+use Rattle.harden.specs.Hardened.{tableOf, prepare, update, check, Source, isLeader, sign, sourceOf}
+use Rattle.graph.specs.declared.Header.{Header}
 
 -- as many zeros as a source has nodes at most
 unfoldable pub zeros : List ℕ
@@ -107,11 +108,15 @@ firstTo e crossing (branch c a b then else) = e
 firstTo e crossing (ret a) = 0
 firstTo e crossing stop = 0
 
+-- the source that a header and a table give
+abbrev pub sourceIn : Header → List ℕ → Source
+sourceIn header table = sourceOf (header .registers) (header .nodes) (header .entry) table
+
 -- grades that are right for an accepted source
-pub record Led (registers nodes entry : ℕ) (table grades : List ℕ) : Type 0 where
-  pub accepted : SourceGraph registers nodes entry (nodeAt table)
-  pub right : (n : ℕ) → n < nodes → leads grades n ≡ isLeader (sourceOf registers nodes entry table) n
+pub record Led (header : Header) (table grades : List ℕ) : Type 0 where
+  pub accepted : SourceGraph (header .registers) (header .nodes) (header .entry) (nodeAt table)
+  pub right : (n : ℕ) → n < header .nodes → leads grades n ≡ isLeader (sourceIn header table) n
 
 -- and signatures
-pub record Signed (registers nodes entry : ℕ) (table signatures : List ℕ) : Type 0 where
-  pub right : (n : ℕ) → n < nodes → signed signatures n ≡ sign (sourceOf registers nodes entry table) n
+pub record Signed (header : Header) (table signatures : List ℕ) : Type 0 where
+  pub right : (n : ℕ) → n < header .nodes → signed signatures n ≡ sign (sourceIn header table) n

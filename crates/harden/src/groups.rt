@@ -27,7 +27,7 @@ fn retest(
 }
 
 // The seven extra nodes of a branch.
-fn branch_group(
+pub fn branch_group(
     out: &mut [u32],
     registers: usize,
     catch: usize,
@@ -47,7 +47,7 @@ fn branch_group(
 }
 
 // The three extra nodes of an edge that crosses to the leader l.
-fn crossing_group(
+pub fn crossing_group(
     out: &mut [u32],
     registers: usize,
     catch: usize,

@@ -1,9 +1,9 @@
 // Leaders, ranks, signatures, and the hardened table.
 use graph::Header;
 
-mod blocks;
+mod signing;
 mod groups;
-mod leaders;
+mod grading;
 mod whole;
 mod writing;
 

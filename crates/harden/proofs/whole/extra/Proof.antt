@@ -9,7 +9,7 @@ use Rattle.harden.proofs.whole.extra.Tie as tie
 use Rattle.harden.proofs.whole.extra.Reads as reads
 use Rattle.harden.proofs.whole.extra.Lts as lts
 use Rattle.graph.proofs.targets.Reads as targets-reads
-use Rattle.harden.proofs.leaders.leads.Reads as leads-reads
+use Rattle.harden.proofs.grading.leads.Reads as leads-reads
 
 -- src/whole.rt:19:11
 targets-requires : tie.Need-targets-requires

@@ -9,7 +9,7 @@ use Rattle.harden.proofs.whole.first_to.Tie as tie
 use Rattle.harden.proofs.whole.first_to.Reads as reads
 use Rattle.harden.proofs.whole.first_to.Lts as lts
 use Rattle.graph.proofs.targets.Reads as targets-reads
-use Rattle.harden.proofs.leaders.leads.Reads as leads-reads
+use Rattle.harden.proofs.grading.leads.Reads as leads-reads
 
 -- src/whole.rt:30:11
 targets-requires : tie.Need-targets-requires

@@ -8,12 +8,12 @@ use borrow.Author.Needs.{needs}
 use lib.ListN.{length, set}
 use Rattle.graph.specs.Nodes.{nodeAt}
 use Rattle.harden.specs.Passes.{zeros, gradesBelow}
-use Rattle.harden.proofs.leaders.grades.Statement.{statement}
-use Rattle.harden.proofs.leaders.grades.Tie as tie
-use Rattle.harden.proofs.leaders.grades.Reads as reads
-use Rattle.harden.proofs.leaders.grades.Lts as lts
-use Rattle.harden.proofs.leaders.grade.Reads as grade-reads
-use Rattle.harden.proofs.leaders.zeros.Reads as zeros-reads
+use Rattle.harden.proofs.grading.grades.Statement.{statement}
+use Rattle.harden.proofs.grading.grades.Tie as tie
+use Rattle.harden.proofs.grading.grades.Reads as reads
+use Rattle.harden.proofs.grading.grades.Lts as lts
+use Rattle.harden.proofs.grading.grade.Reads as grade-reads
+use Rattle.harden.proofs.grading.zeros.Reads as zeros-reads
 use Rattle.harden.proofs.writing.store.Reads as store-reads
 
 abbrev Inv-loop : tie.InvT-loop

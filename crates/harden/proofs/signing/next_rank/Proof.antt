@@ -1,10 +1,10 @@
 use native.Mathlib.Omega.{arith}
 use borrow.Author.Needs.{needs}
-use Rattle.harden.proofs.blocks.next_rank.Statement.{statement}
-use Rattle.harden.proofs.blocks.next_rank.Tie as tie
-use Rattle.harden.proofs.blocks.next_rank.Reads as reads
-use Rattle.harden.proofs.blocks.next_rank.Lts as lts
-use Rattle.harden.proofs.leaders.leads.Reads as leads-reads
+use Rattle.harden.proofs.signing.next_rank.Statement.{statement}
+use Rattle.harden.proofs.signing.next_rank.Tie as tie
+use Rattle.harden.proofs.signing.next_rank.Reads as reads
+use Rattle.harden.proofs.signing.next_rank.Lts as lts
+use Rattle.harden.proofs.grading.leads.Reads as leads-reads
 
 -- src/blocks.rt:71:8
 leads-requires : tie.Need-leads-requires

@@ -1,11 +1,11 @@
 use Rattle.harden.proofs.Passes.{grade-none, grade-one, grade-two}
 use borrow.Author.Needs.{needs}
-use Rattle.harden.proofs.leaders.grade.Statement.{statement}
-use Rattle.harden.proofs.leaders.grade.Tie as tie
-use Rattle.harden.proofs.leaders.grade.Reads as reads
-use Rattle.harden.proofs.leaders.grade.Lts as lts
+use Rattle.harden.proofs.grading.grade.Statement.{statement}
+use Rattle.harden.proofs.grading.grade.Tie as tie
+use Rattle.harden.proofs.grading.grade.Reads as reads
+use Rattle.harden.proofs.grading.grade.Lts as lts
 use Rattle.graph.proofs.targets.Reads as targets-reads
-use Rattle.harden.proofs.leaders.higher.Reads as higher-reads
+use Rattle.harden.proofs.grading.higher.Reads as higher-reads
 use Rattle.harden.proofs.writing.store.Reads as store-reads
 use Rattle.words.proofs.word.Reads as word-reads
 

@@ -5,7 +5,7 @@ ghost use mathlib.Core.Bool.{cond};
 ghost use Rattle.graph.specs.Nodes.{nodeAt};
 ghost use Rattle.harden.specs.Blocks.{onePlusRank};
 ghost use Rattle.harden.specs.Passes.{zeros, leads, preceded, precedersBelow, headBy, filled, asLeader, asBlock};
-use super::leaders;
+use super::grading;
 use super::writing;
 use graph::Successors;
 
@@ -30,7 +30,7 @@ pub fn preceders(table: &[u32], nodes: usize) -> [u32; 256]
     requires { ⌜ nodes ≤ 256 ⌝ }
     ensures { λ r. ⌜ r ≡ precedersBelow (nodeAt (now (table .entry))) zeros nodes ⌝ }
 {
-    let mut preceders = leaders::zeros();
+    let mut preceders = grading::zeros();
     let mut m = 0;
     while m < nodes {
         precede(&mut preceders, table, m);
@@ -46,7 +46,7 @@ fn head(grades: &[u32], preceders: &[u32], steps: usize, n: usize) -> usize
     let mut left = steps;
     let mut at = n;
     while 0 < left {
-        if leaders::leads(grades, at) {
+        if grading::leads(grades, at) {
             return at;
         }
         at = words::word(preceders, at) as usize;
@@ -68,7 +68,7 @@ fn next_rank(grades: &[u32], n: usize, rank: usize) -> usize
     requires { ⌜ rank ≤ 256 ⌝ }
     ensures { λ r. ⌜ r ≡ rank + cond (leads (now (grades .entry)) n) 1 0 ⌝ }
 {
-    if leaders::leads(grades, n) {
+    if grading::leads(grades, n) {
         rank + 1
     } else {
         rank
@@ -80,7 +80,7 @@ pub fn leading(grades: &[u32], nodes: usize) -> [u32; 256]
     requires { ⌜ nodes ≤ 256 ⌝ }
     ensures { λ r. ⌜ r ≡ filled (asLeader (now (grades .entry))) zeros nodes ⌝ }
 {
-    let mut signatures = leaders::zeros();
+    let mut signatures = grading::zeros();
     let mut rank = 0;
     let mut n = 0;
     while n < nodes {
@@ -96,7 +96,7 @@ pub fn signatures(grades: &[u32], preceders: &[u32], leading: &[u32], nodes: usi
     requires { ⌜ nodes ≤ 256 ⌝ }
     ensures { λ r. ⌜ r ≡ filled (asBlock (now (grades .entry)) (now (preceders .entry)) (now (leading .entry)) nodes) zeros nodes ⌝ }
 {
-    let mut signatures = leaders::zeros();
+    let mut signatures = grading::zeros();
     let mut n = 0;
     while n < nodes {
         signatures[n] = words::word(leading, head(grades, preceders, nodes, n));

@@ -9,13 +9,13 @@ use lib.ListN.{length, set}
 use borrow.Author.Needs.{needs}
 use mathlib.Core.Path.{_≡_, sym, ap, _∙_}
 use Prim.Native.Nat.{ℕ, _≤_, _-_}
-use Rattle.harden.proofs.blocks.leading.Statement.{statement}
-use Rattle.harden.proofs.blocks.leading.Tie as tie
-use Rattle.harden.proofs.blocks.leading.Reads as reads
-use Rattle.harden.proofs.blocks.leading.Lts as lts
-use Rattle.harden.proofs.blocks.next_rank.Reads as next-rank-reads
-use Rattle.harden.proofs.blocks.plan.Reads as plan-reads
-use Rattle.harden.proofs.leaders.zeros.Reads as zeros-reads
+use Rattle.harden.proofs.signing.leading.Statement.{statement}
+use Rattle.harden.proofs.signing.leading.Tie as tie
+use Rattle.harden.proofs.signing.leading.Reads as reads
+use Rattle.harden.proofs.signing.leading.Lts as lts
+use Rattle.harden.proofs.signing.next_rank.Reads as next-rank-reads
+use Rattle.harden.proofs.signing.plan.Reads as plan-reads
+use Rattle.harden.proofs.grading.zeros.Reads as zeros-reads
 
 abbrev Inv-loop : tie.InvT-loop
 Inv-loop grades nodes signatures₀ rank₀ n₀ signatures rank n =

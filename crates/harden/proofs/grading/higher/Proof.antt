@@ -1,8 +1,8 @@
 use borrow.Author.Tests.{eq-eqb, ne-eqb}
-use Rattle.harden.proofs.leaders.higher.Statement.{statement}
-use Rattle.harden.proofs.leaders.higher.Tie as tie
-use Rattle.harden.proofs.leaders.higher.Reads as reads
-use Rattle.harden.proofs.leaders.higher.Lts as lts
+use Rattle.harden.proofs.grading.higher.Statement.{statement}
+use Rattle.harden.proofs.grading.higher.Tie as tie
+use Rattle.harden.proofs.grading.higher.Reads as reads
+use Rattle.harden.proofs.grading.higher.Lts as lts
 
 -- src/leaders.rt:23:1
 returns : tie.Need-returns

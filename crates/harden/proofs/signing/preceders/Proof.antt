@@ -6,12 +6,12 @@ use lib.ListN.{length, set}
 use borrow.Author.Needs.{needs}
 use mathlib.Core.Path.{_≡_, sym, ap, _∙_}
 use Prim.Native.Nat.{ℕ, _≤_, _-_}
-use Rattle.harden.proofs.blocks.preceders.Statement.{statement}
-use Rattle.harden.proofs.blocks.preceders.Tie as tie
-use Rattle.harden.proofs.blocks.preceders.Reads as reads
-use Rattle.harden.proofs.blocks.preceders.Lts as lts
-use Rattle.harden.proofs.blocks.precede.Reads as precede-reads
-use Rattle.harden.proofs.leaders.zeros.Reads as zeros-reads
+use Rattle.harden.proofs.signing.preceders.Statement.{statement}
+use Rattle.harden.proofs.signing.preceders.Tie as tie
+use Rattle.harden.proofs.signing.preceders.Reads as reads
+use Rattle.harden.proofs.signing.preceders.Lts as lts
+use Rattle.harden.proofs.signing.precede.Reads as precede-reads
+use Rattle.harden.proofs.grading.zeros.Reads as zeros-reads
 
 abbrev Inv-loop : tie.InvT-loop
 Inv-loop table nodes preceders₀ m₀ preceders m =

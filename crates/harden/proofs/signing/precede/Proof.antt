@@ -1,9 +1,9 @@
 use Rattle.harden.proofs.Passes.{precede-none, precede-one, precede-two}
 use borrow.Author.Needs.{needs}
-use Rattle.harden.proofs.blocks.precede.Statement.{statement}
-use Rattle.harden.proofs.blocks.precede.Tie as tie
-use Rattle.harden.proofs.blocks.precede.Reads as reads
-use Rattle.harden.proofs.blocks.precede.Lts as lts
+use Rattle.harden.proofs.signing.precede.Statement.{statement}
+use Rattle.harden.proofs.signing.precede.Tie as tie
+use Rattle.harden.proofs.signing.precede.Reads as reads
+use Rattle.harden.proofs.signing.precede.Lts as lts
 use Rattle.graph.proofs.targets.Reads as targets-reads
 use Rattle.harden.proofs.writing.store.Reads as store-reads
 

@@ -2,10 +2,10 @@ use lib.Dec.{eqb}
 use Prim.Native.Nat.{ℕ}
 use mathlib.Core.Path.{ap}
 use borrow.Author.Needs.{needs}
-use Rattle.harden.proofs.leaders.leads.Statement.{statement}
-use Rattle.harden.proofs.leaders.leads.Tie as tie
-use Rattle.harden.proofs.leaders.leads.Reads as reads
-use Rattle.harden.proofs.leaders.leads.Lts as lts
+use Rattle.harden.proofs.grading.leads.Statement.{statement}
+use Rattle.harden.proofs.grading.leads.Tie as tie
+use Rattle.harden.proofs.grading.leads.Reads as reads
+use Rattle.harden.proofs.grading.leads.Lts as lts
 use Rattle.words.proofs.word.Reads as word-reads
 
 -- src/leaders.rt:20:5

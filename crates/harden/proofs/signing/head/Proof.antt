@@ -4,11 +4,11 @@ use Prim.Native.Nat.{ℕ}
 use native.Mathlib.Omega.{arith}
 use borrow.Author.Needs.{needs}
 use mathlib.Core.Path.{_≡_, refl, sym, ap, _∙_}
-use Rattle.harden.proofs.blocks.head.Statement.{statement}
-use Rattle.harden.proofs.blocks.head.Tie as tie
-use Rattle.harden.proofs.blocks.head.Reads as reads
-use Rattle.harden.proofs.blocks.head.Lts as lts
-use Rattle.harden.proofs.leaders.leads.Reads as leads-reads
+use Rattle.harden.proofs.signing.head.Statement.{statement}
+use Rattle.harden.proofs.signing.head.Tie as tie
+use Rattle.harden.proofs.signing.head.Reads as reads
+use Rattle.harden.proofs.signing.head.Lts as lts
+use Rattle.harden.proofs.grading.leads.Reads as leads-reads
 use Rattle.words.proofs.word.Reads as word-reads
 
 abbrev Inv-loop : tie.InvT-loop

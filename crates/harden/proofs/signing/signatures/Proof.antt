@@ -7,12 +7,12 @@ use lib.ListN.{length, set}
 use borrow.Author.Needs.{needs}
 use mathlib.Core.Path.{_≡_, sym, ap, _∙_}
 use Prim.Native.Nat.{ℕ, _≤_, _-_}
-use Rattle.harden.proofs.blocks.signatures.Statement.{statement}
-use Rattle.harden.proofs.blocks.signatures.Tie as tie
-use Rattle.harden.proofs.blocks.signatures.Reads as reads
-use Rattle.harden.proofs.blocks.signatures.Lts as lts
-use Rattle.harden.proofs.blocks.head.Reads as head-reads
-use Rattle.harden.proofs.leaders.zeros.Reads as zeros-reads
+use Rattle.harden.proofs.signing.signatures.Statement.{statement}
+use Rattle.harden.proofs.signing.signatures.Tie as tie
+use Rattle.harden.proofs.signing.signatures.Reads as reads
+use Rattle.harden.proofs.signing.signatures.Lts as lts
+use Rattle.harden.proofs.signing.head.Reads as head-reads
+use Rattle.harden.proofs.grading.zeros.Reads as zeros-reads
 use Rattle.words.proofs.word.Reads as word-reads
 
 abbrev Inv-loop : tie.InvT-loop
