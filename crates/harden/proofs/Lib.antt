@@ -5,3 +5,4 @@ pub mod Writes
 pub mod Successors
 pub mod Passes
 pub mod Turns
+pub mod Graded

@@ -8,7 +8,7 @@ use mathlib.Core.Path.{_≡_, refl, sym, ap, _∙_}
 use mathlib.Core.Logic.{_⊎_, inl, inr, ⊎-elim}
 use mathlib.Core.Bool.{Bool, true, false, cond}
 use mathlib.Core.List.{List, [], _∷_}
-use lib.ListN.{length, getD, set, length-set, length-replicate}
+use lib.ListN.{length, getD, set, length-set, length-replicate, getD-replicate}
 use lib.Seq.{getD-set-same, getD-set-other}
 use Rattle.graph.specs.Nodes.{Node, targets}
 use Rattle.graph.specs.Successors.{targetsOf}
@@ -22,6 +22,10 @@ use Rattle.harden.proofs.Successors.{no-edge, one-edge, two-edges}
 pub zeros-length : length zeros ≡ 256
 unfolding zeros
 zeros-length = length-replicate {A = ℕ} 256 0
+
+pub zeros-at : (n : ℕ) → n < 256 → getD zeros n 0 ≡ 0
+unfolding zeros
+zeros-at n h = getD-replicate {A = ℕ} 256 n 0 0 h
 
 module _ (node : Node) (l : List ℕ) {r : Successors} (read : targetsOf r ≡ targets node) where
   pub grade-none : r ≡ None → l ≡ graded node l
