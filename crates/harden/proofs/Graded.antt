@@ -33,10 +33,10 @@ always-more false true edges = refl
 always-more false false edges = refl
 
 -- what stands at n after a store at k
-stored-there : (l : List ℕ) (k n v : ℕ) → n < length l → eqb k n ≡ true → getD (set l k v) n 0 ≡ v
+pub stored-there : (l : List ℕ) (k n v : ℕ) → n < length l → eqb k n ≡ true → getD (set l k v) n 0 ≡ v
 stored-there l k n v h e = rw (eqb-true k n e) (getD-set-same l n v 0 h)
 
-stored-elsewhere : (l : List ℕ) (k n v : ℕ) → eqb k n ≡ false → getD (set l k v) n 0 ≡ getD l n 0
+pub stored-elsewhere : (l : List ℕ) (k n v : ℕ) → eqb k n ≡ false → getD (set l k v) n 0 ≡ getD l n 0
 stored-elsewhere l k n v e = getD-set-other l k n v 0 (λ same. eqb-false k n e (sym same))
 
 module _ (l : List ℕ) (n : ℕ) (led : Bool) (edges : ℕ) (h : n < length l) (known : getD l n 0 ≡ gradeOf led edges) where

@@ -6,3 +6,4 @@ pub mod Successors
 pub mod Passes
 pub mod Turns
 pub mod Graded
+pub mod Signatures

@@ -1,9 +1,9 @@
 // Leaders, ranks, signatures, and the hardened table.
 use graph::Header;
 
-mod signing;
-mod groups;
 mod grading;
+mod groups;
+mod signing;
 mod whole;
 mod writing;
 

@@ -6,11 +6,11 @@ ghost use Rattle.graph.specs.Nodes.{nodeAt};
 ghost use Rattle.harden.specs.Blocks.{crosses};
 ghost use Rattle.harden.specs.Hardened.{extra, ownAt, groupFrom, sourceRows, groupRows, hardenedRows, hardenedCount};
 ghost use Rattle.harden.specs.Passes.{leads, putRows, firstTo, sourceIn, Led, Signed};
+use super::grading;
+use super::groups;
+use super::writing;
 use graph::Header;
 use graph::Successors;
-use super::groups;
-use super::grading;
-use super::writing;
 
 // How many extra nodes a source node has.
 fn extra(table: &[u32], grades: &[u32], n: usize) -> usize
@@ -29,7 +29,11 @@ fn first_to(table: &[u32], grades: &[u32], n: usize, e: usize) -> usize
 {
     match graph::targets(table, n) {
         Successors::None => 0,
-        Successors::One(next) => if grading::leads(grades, next) { e } else { next },
+        Successors::One(next) => if grading::leads(grades, next) {
+            e
+        } else {
+            next
+        },
         Successors::Two(_, _) => e,
     }
 }
@@ -73,7 +77,15 @@ fn source_rows(out: &mut [u32], source: Header, table: &[u32], grades: &[u32])
 }
 
 // The group of a source node, e the first of its extra nodes.
-fn group(out: &mut [u32], source: Header, table: &[u32], grades: &[u32], signatures: &[u32], n: usize, e: usize)
+fn group(
+    out: &mut [u32],
+    source: Header,
+    table: &[u32],
+    grades: &[u32],
+    signatures: &[u32],
+    n: usize,
+    e: usize,
+)
     requires { ⌜ Led source (now table) (now grades) × (Signed source (now table) (now signatures) × ((n < source .nodes) × (e < 3900))) ⌝ }
     ensures { λ r. ⌜ now (out .exit) ≡ putRows (now (out .entry)) e (groupFrom (sourceIn source (now (table .entry))) e n) ⌝ }
 {
@@ -86,7 +98,17 @@ fn group(out: &mut [u32], source: Header, table: &[u32], grades: &[u32], signatu
                 groups::crossing_group(out, registers, catch, e, signatures, n, next);
             }
         }
-        Successors::Two(t, f) => groups::branch_group(out, registers, catch, e, table, signatures, n, t, f),
+        Successors::Two(t, f) => groups::branch_group(
+            out,
+            registers,
+            catch,
+            e,
+            table,
+            signatures,
+            n,
+            t,
+            f,
+        ),
     }
 }
 
@@ -113,6 +135,12 @@ pub fn write(out: &mut [u32], source: Header, table: &[u32], grades: &[u32], sig
     let nodes = source.nodes;
     let entry = source.entry;
     source_rows(out, source, table, grades);
-    writing::begin(out, source.registers, nodes, entry, words::word(signatures, entry));
+    writing::begin(
+        out,
+        source.registers,
+        nodes,
+        entry,
+        words::word(signatures, entry),
+    );
     all_groups(out, source, table, grades, signatures);
 }
