@@ -7,3 +7,4 @@ pub mod Passes
 pub mod Turns
 pub mod Graded
 pub mod Signatures
+pub mod Answers

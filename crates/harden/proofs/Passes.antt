@@ -14,7 +14,7 @@ use Rattle.graph.specs.Nodes.{Node, targets}
 use Rattle.graph.specs.Successors.{targetsOf}
 use Rattle.graph.specs.declared.Successors.{Successors}
 use Rattle.graph.specs.declared.Successors.the-variants.{None, One, Two}
-use Rattle.harden.specs.Passes.{zeros, leads, higher, graded, gradesBelow, preceded, precedersBelow, headBy, leadersBelow, filled, firstTo}
+use Rattle.harden.specs.Passes.{zeros, leads, higher, graded, gradesBelow, preceded, precedersBelow, headBy, leadersBelow, filled, asLeader, asBlock, blockSignatures, firstTo}
 use Rattle.harden.specs.Blocks.{crosses}
 use Rattle.harden.specs.Hardened.{extra}
 use Rattle.harden.proofs.Successors.{no-edge, one-edge, two-edges}
@@ -111,3 +111,10 @@ module _ (led : ℕ → Bool) (node : Node) {r : Successors} (read : targetsOf r
 
   pub first-two : (e : ℕ) {then else : ℕ} → r ≡ Two then else → e ≡ firstTo e (crosses led node) node
   first-two e known = rw (two-edges node read known .is)
+
+-- the three passes of the signatures
+pub blocks-found : (graph : ℕ → Node) (grades : List ℕ) (nodes : ℕ) {preceders leading signatures : List ℕ} →
+    preceders ≡ precedersBelow graph zeros nodes → leading ≡ filled (asLeader grades) zeros nodes →
+    signatures ≡ filled (asBlock grades preceders leading nodes) zeros nodes → signatures ≡ blockSignatures graph grades nodes
+unfolding blockSignatures
+blocks-found graph grades nodes p q r = r ∙ rw (p, q)

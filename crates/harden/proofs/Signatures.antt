@@ -12,7 +12,7 @@ use lib.Seq.{getD-set-same, getD-set-other}
 use lib.Dec.{eqb, ltb}
 use Rattle.graph.specs.Nodes.{Node, go, branch, ret, stop, targets}
 use Rattle.harden.specs.Blocks.{among, leader, predecessor, headIn, blockHead, rank, onePlusRank, signature}
-use Rattle.harden.specs.Passes.{zeros, leads, preceded, precedersBelow, headBy, leadersBelow, filled, asLeader, asBlock, signed}
+use Rattle.harden.specs.Passes.{zeros, leads, preceded, precedersBelow, headBy, leadersBelow, filled, asLeader, asBlock, signed, blockSignatures}
 use Rattle.harden.proofs.Passes.{zeros-length, zeros-at}
 use Rattle.harden.proofs.Graded.{stored-there, stored-elsewhere}
 
@@ -106,9 +106,8 @@ module _ (graph : ℕ → Node) (nodes entry : ℕ) (grades : List ℕ) (few : n
 
   -- the signatures that the passes find
   pub signatures-found : (n : ℕ) → n < nodes →
-      signed (filled (asBlock grades (precedersBelow graph zeros nodes) (filled (asLeader grades) zeros nodes) nodes) zeros nodes) n
-      ≡ signature onePlusRank graph nodes entry n
-  unfolding signature blockHead
+      signed (blockSignatures graph grades nodes) n ≡ signature onePlusRank graph nodes entry n
+  unfolding blockSignatures signature blockHead
   signatures-found n h =
       let head = headIn graph nodes entry nodes n in
       let low : head < nodes = head-in nodes n h in

@@ -4,13 +4,14 @@ use Prim.Native.Nat.{ℕ, zero, suc, _+_, _*_, _<_}
 use mathlib.Core.Path.{_≡_}
 use mathlib.Core.Bool.{Bool, true, false, cond}
 use mathlib.Core.List.{List, [], _∷_, _++_}
-use lib.ListN.{getD, set, replicate}
-use lib.Dec.{eqb}
-use Rattle.words.specs.Buffer.{put}
+use lib.ListN.{length, getD, set, replicate}
+use lib.Dec.{eqb, leb}
+use Rattle.words.specs.Answer.{Answer, given, demand, written}
+use Rattle.words.specs.Buffer.{put, over}
 use Rattle.graph.specs.Nodes.{Node, go, branch, ret, stop, nodeAt}
 use Rattle.graph.specs.Accepted.{SourceGraph}
 use Rattle.harden.specs.Blocks.{onePlusRank}
-use Rattle.harden.specs.Hardened.{tableOf, prepare, update, check, Source, isLeader, sign, sourceOf}
+use Rattle.harden.specs.Hardened.{tableOf, prepare, update, check, Source, isLeader, sign, sourceOf, hardenedCount, hardenedTable}
 use Rattle.graph.specs.declared.Header.{Header}
 
 -- as many zeros as a source has nodes at most
@@ -71,6 +72,11 @@ asLeader grades n = onePlusRank (leadersBelow grades n)
 abbrev pub asBlock : List ℕ → List ℕ → List ℕ → ℕ → ℕ → ℕ
 asBlock grades preceders leaders nodes n = getD leaders (headBy grades preceders nodes n) 0
 
+-- the signatures of all blocks, from the grades
+unfoldable pub blockSignatures : (ℕ → Node) → List ℕ → ℕ → List ℕ
+blockSignatures graph grades nodes =
+    filled (asBlock grades (precedersBelow graph zeros nodes) (filled (asLeader grades) zeros nodes) nodes) zeros nodes
+
 -- the buffer with rows from row n upward
 unfoldable pub putRows : List ℕ → ℕ → List Node → List ℕ
 putRows buffer n rows = put buffer (6 * n) (tableOf rows)
@@ -120,3 +126,13 @@ pub record Led (header : Header) (table grades : List ℕ) : Type 0 where
 -- and signatures
 pub record Signed (header : Header) (table signatures : List ℕ) : Type 0 where
   pub right : (n : ℕ) → n < header .nodes → signed signatures n ≡ sign (sourceIn header table) n
+
+-- what hardening answers of an accepted source, and what it writes, by the room there is
+unfoldable pub roomAnswer : Header → List ℕ → ℕ → Answer Header
+roomAnswer header table room =
+    let h = hardenedCount (sourceIn header table) in
+    demand {A = Header} (leb (6 * h) room) 11 (6 * h) (given (record { registers = header .registers + 2; nodes = h; entry = header .nodes }))
+
+unfoldable pub roomOutput : Header → List ℕ → List ℕ → List ℕ
+roomOutput header table out =
+    written (roomAnswer header table (length out)) (λ _. over (hardenedTable (sourceIn header table)) out) out

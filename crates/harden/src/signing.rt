@@ -4,7 +4,7 @@ ghost use mathlib.Core.Path.{_≡_};
 ghost use mathlib.Core.Bool.{cond};
 ghost use Rattle.graph.specs.Nodes.{nodeAt};
 ghost use Rattle.harden.specs.Blocks.{onePlusRank};
-ghost use Rattle.harden.specs.Passes.{zeros, leads, preceded, precedersBelow, headBy, filled, asLeader, asBlock};
+ghost use Rattle.harden.specs.Passes.{zeros, leads, preceded, precedersBelow, headBy, filled, asLeader, asBlock, blockSignatures};
 use super::grading;
 use super::writing;
 use graph::Successors;
@@ -26,7 +26,7 @@ fn precede(preceders: &mut [u32], table: &[u32], m: usize)
 }
 
 // The last node with an edge to each node.
-pub fn preceders(table: &[u32], nodes: usize) -> [u32; 256]
+fn preceders(table: &[u32], nodes: usize) -> [u32; 256]
     requires { ⌜ nodes ≤ 256 ⌝ }
     ensures { λ r. ⌜ r ≡ precedersBelow (nodeAt (now (table .entry))) zeros nodes ⌝ }
 {
@@ -76,7 +76,7 @@ fn next_rank(grades: &[u32], n: usize, rank: usize) -> usize
 }
 
 // The signature that each node has as a leader.
-pub fn leading(grades: &[u32], nodes: usize) -> [u32; 256]
+fn leading(grades: &[u32], nodes: usize) -> [u32; 256]
     requires { ⌜ nodes ≤ 256 ⌝ }
     ensures { λ r. ⌜ r ≡ filled (asLeader (now (grades .entry))) zeros nodes ⌝ }
 {
@@ -92,7 +92,7 @@ pub fn leading(grades: &[u32], nodes: usize) -> [u32; 256]
 }
 
 // The signature of each node's block.
-pub fn signatures(grades: &[u32], preceders: &[u32], leading: &[u32], nodes: usize) -> [u32; 256]
+fn signatures(grades: &[u32], preceders: &[u32], leading: &[u32], nodes: usize) -> [u32; 256]
     requires { ⌜ nodes ≤ 256 ⌝ }
     ensures { λ r. ⌜ r ≡ filled (asBlock (now (grades .entry)) (now (preceders .entry)) (now (leading .entry)) nodes) zeros nodes ⌝ }
 {
@@ -103,4 +103,14 @@ pub fn signatures(grades: &[u32], preceders: &[u32], leading: &[u32], nodes: usi
         n += 1;
     }
     signatures
+}
+
+// The signatures of all blocks, from the grades.
+pub fn of_blocks(table: &[u32], grades: &[u32], nodes: usize) -> [u32; 256]
+    requires { ⌜ nodes ≤ 256 ⌝ }
+    ensures { λ r. ⌜ r ≡ blockSignatures (nodeAt (now (table .entry))) (now (grades .entry)) nodes ⌝ }
+{
+    let preceders = preceders(table, nodes);
+    let leading = leading(grades, nodes);
+    signatures(grades, &preceders, &leading, nodes)
 }

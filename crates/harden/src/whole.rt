@@ -2,12 +2,17 @@
 ghost use Prim.Native.Nat.{_+_, _<_, _≤_};
 ghost use mathlib.Core.Path.{_≡_};
 ghost use mathlib.Core.List.{[], _∷_};
+ghost use lib.ListN.{length};
+ghost use Rattle.words.specs.Answer.{given};
+ghost use Rattle.graph.specs.Checks.{sourceCheck};
 ghost use Rattle.graph.specs.Nodes.{nodeAt};
 ghost use Rattle.harden.specs.Blocks.{crosses};
-ghost use Rattle.harden.specs.Hardened.{extra, ownAt, groupFrom, sourceRows, groupRows, hardenedRows, hardenedCount};
-ghost use Rattle.harden.specs.Passes.{leads, putRows, firstTo, sourceIn, Led, Signed};
+ghost use Rattle.harden.specs.Hardened.{extra, ownAt, groupFrom, sourceRows, groupRows, hardenedRows, hardenedCount, hardeningOf};
+ghost use Rattle.harden.specs.Passes.{leads, putRows, firstTo, sourceIn, Led, Signed, roomAnswer, roomOutput};
+use super::Hardening;
 use super::grading;
 use super::groups;
+use super::signing;
 use super::writing;
 use graph::Header;
 use graph::Successors;
@@ -143,4 +148,24 @@ pub fn write(out: &mut [u32], source: Header, table: &[u32], grades: &[u32], sig
         words::word(signatures, entry),
     );
     all_groups(out, source, table, grades, signatures);
+}
+
+// An accepted source, hardened where there is room.
+pub fn harden(source: Header, table: &[u32], out: &mut [u32]) -> Hardening
+    requires { ⌜ sourceCheck (source .registers) (source .nodes) (source .entry) (now table) ≡ given tt ⌝ }
+    ensures { λ r. ⌜ (hardeningOf r ≡ roomAnswer source (now (table .entry)) (length (now (out .entry)))) × (now (out .exit) ≡ roomOutput source (now (table .entry)) (now (out .entry))) ⌝ }
+{
+    let nodes = source.nodes;
+    let grades = grading::grades(table, nodes, source.entry);
+    let signatures = signing::of_blocks(table, &grades, nodes);
+    let h = count(source, table, &grades);
+    if out.len() < 6 * h {
+        return Hardening::Refused(11, 6 * h);
+    }
+    write(out, source, table, &grades, &signatures);
+    Hardening::Hardened(Header {
+        registers: source.registers + 2,
+        nodes: h,
+        entry: nodes,
+    })
 }
