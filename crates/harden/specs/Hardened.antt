@@ -93,16 +93,22 @@ extraBelow s (suc n) = extraBelow s n + extra (crossing s n) (s .graph n)
 unfoldable pub groupAt : Source → ℕ → ℕ
 groupAt s n = s .nodes + 2 + extraBelow s n
 
+-- a source node's own row, and its group, e the first of its extra nodes
+abbrev pub ownAt : Source → ℕ → ℕ → Node
+ownAt s e n = ownRow e (crossing s n) (s .graph n)
+
+abbrev pub groupFrom : Source → ℕ → ℕ → List Node
+groupFrom s e n = groupOf (s .registers) (s .nodes + 1) e (sign s) (crossing s n) n (s .graph n)
+
 -- the rows of the source nodes below n
 unfoldable pub sourceRows : Source → ℕ → List Node
 sourceRows s zero = []
-sourceRows s (suc n) = sourceRows s n ++ (ownRow (groupAt s n) (crossing s n) (s .graph n) ∷ [])
+sourceRows s (suc n) = sourceRows s n ++ (ownAt s (groupAt s n) n ∷ [])
 
 -- the groups of the source nodes below n
 unfoldable pub groupRows : Source → ℕ → List Node
 groupRows s zero = []
-groupRows s (suc n) =
-    groupRows s n ++ groupOf (s .registers) (s .nodes + 1) (groupAt s n) (sign s) (crossing s n) n (s .graph n)
+groupRows s (suc n) = groupRows s n ++ groupFrom s (groupAt s n) n
 
 -- node N sets GSR to the entry block's signature and goes to the source entry
 unfoldable pub firstRow : Source → Node
@@ -110,11 +116,31 @@ firstRow s = go (const (s .registers) (sign s (s .entry))) (s .entry)
 
 -- all nodes: the source nodes, node N, the catch, the groups in ascending order of source node
 unfoldable pub hardenedRows : Source → List Node
-hardenedRows s = sourceRows s (s .nodes) ++ (firstRow s ∷ stop ∷ []) ++ groupRows s (s .nodes)
+hardenedRows s = sourceRows s (s .nodes) ++ firstRow s ∷ stop ∷ groupRows s (s .nodes)
+
+-- row i of them
+unfoldable pub rowAt : Source → ℕ → Node
+rowAt s i = getD (hardenedRows s) i stop
 
 -- H
 unfoldable pub hardenedCount : Source → ℕ
 hardenedCount s = groupAt s (s .nodes)
+
+abbrev pub isBranch : Node → Bool
+isBranch (branch c a b then else) = true
+isBranch (go action next) = false
+isBranch (ret a) = false
+isBranch stop = false
+
+-- the branch nodes below n: B at n = N
+unfoldable pub branchCount : Source → ℕ → ℕ
+branchCount s zero = 0
+branchCount s (suc n) = branchCount s n + cond (isBranch (s .graph n)) 1 0
+
+-- the crossing edges from the nodes below n: X at n = N
+unfoldable pub crossingCount : Source → ℕ → ℕ
+crossingCount s zero = 0
+crossingCount s (suc n) = crossingCount s n + cond (crossing s n) 1 0
 
 -- the words of rows, six a row
 abbrev pub tableOf : List Node → List ℕ
