@@ -15,7 +15,7 @@ use Rattle.graph.specs.declared.Role.{Role}
 use Rattle.graph.specs.declared.Role.the-variants.{Target}
 use Rattle.graph.specs.Kinds.{roleAt}
 use Rattle.file.specs.Reading.{before, kindAfter, countAt, fieldAt, cellAt, cellsFrom, bodyOf, contentsOf, readAnswer, readTable}
-use Rattle.file.proofs.Sizes.{used, used-before, Here, here-first, here-next}
+use Rattle.file.proofs.Sizes.{used, used-role, reach, reach-most, Here, here-first, here-next}
 use Rattle.file.proofs.Refusals.{count-law, field-law, cell-law}
 use Rattle.file.proofs.InOrder.{cells-law, in-order-end}
 
@@ -47,8 +47,9 @@ module _ (bytes : List ℕ) where
       unfolding cellsFrom
       cells-take zero i kind at count h = refl
       cells-take (suc left) i kind at count h =
-          let short : used kind (i % 6) ≤ 10 = used-before kind (i % 6) (omega arith) in
           let role : Role = roleAt kind (i % 6) in
+          let short : used kind (i % 6) ≤ reach role = used-role kind (i % 6) (omega arith) in
+          let most : reach role ≤ 10 = reach-most role in
           rw (cell-take role at (omega arith))
           (then-same (cellAt bytes registers nodes role at) _ _ λ r e.
           ap (before (r .value))

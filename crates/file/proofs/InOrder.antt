@@ -14,7 +14,7 @@ use Rattle.graph.specs.Kinds.{roleAt}
 use Rattle.file.specs.Reading.{Cells, before, stands, kindAfter, cellsFrom}
 use Rattle.file.specs.declared.Taken.{Taken}
 use Rattle.file.specs.Passes.{takenOf, takenAt, takenCell, takenFrom}
-use Rattle.file.proofs.Sizes.{used, used-one, used-before, Here, here-next}
+use Rattle.file.proofs.Sizes.{used, used-one, used-role, reach, Here, here-next}
 use Rattle.file.proofs.Refusals.{Refusal, Celled, cell-law}
 
 -- so many words in order from index i on, in a node of this kind, that stand from a position to the next
@@ -37,7 +37,7 @@ module _ (bytes : List ℕ) (registers nodes : ℕ) where
   unfolding cellsFrom
   cells-law few fewer first early zero i kind at count h = of-given none
   cells-law few fewer first early (suc left) i kind at count h =
-      let short : used kind (i % 6) ≤ 10 = used-before kind (i % 6) (omega arith) in
+      let short : used kind (i % 6) ≤ reach (roleAt kind (i % 6)) = used-role kind (i % 6) (omega arith) in
       of-then _ (cell-law bytes registers nodes few fewer (roleAt kind (i % 6)) at (omega arith)) λ r e cell.
       of-before cell (cells-law few fewer first early left (i + 1) (kindAfter (i % 6) (r .value) kind) (r .next) (omega arith) (here-next first i kind at (r .value) (r .next) h (cell .short)))
 

@@ -15,7 +15,7 @@ use Rattle.graph.specs.declared.Role.{Role}
 use Rattle.graph.specs.declared.Role.the-variants.{Kind, Operator, Comparison, Port, Register, Target, Free, Spare}
 use Rattle.graph.specs.Kinds.{fault, inRange}
 use Rattle.file.specs.Reading.{stands, countAt, fieldAt, cellAt}
-use Rattle.file.proofs.Sizes.{size}
+use Rattle.file.proofs.Sizes.{size, reach, reach-most}
 
 -- the refusals of the reader, each with the last place where it can be given
 pub data Refusal : ℕ → ℕ → Type 0 where
@@ -23,8 +23,8 @@ pub data Refusal : ℕ → ℕ → Type 0 where
   number-form : {place : ℕ} → place ≤ 24603 → Refusal 2 place
   count-over : {place : ℕ} → place ≤ 1 → Refusal 3 place
   no-room : {place : ℕ} → place ≤ 12300 → Refusal 4 place
-  unknown : {place : ℕ} → place ≤ 24603 → Refusal 5 place
-  no-register : {place : ℕ} → place ≤ 24603 → Refusal 6 place
+  unknown : {place : ℕ} → place ≤ 24594 → Refusal 5 place
+  no-register : {place : ℕ} → place ≤ 24597 → Refusal 6 place
   no-target : {place : ℕ} → place ≤ 24603 → Refusal 7 place
   bytes-after : {place : ℕ} → place ≤ 24605 → Refusal 10 place
 
@@ -75,14 +75,14 @@ wrong true n place h f = absurd (f refl)
 wrong false n place h f = h
 
 -- a fault of a word that stands in a file is 5, 6 or 7
-faulty : (registers nodes : ℕ) (role : Role) (v place : ℕ) → place ≤ 24603 → stands role ≡ true → (fault 8 registers nodes role v ≡ 0 → ⊥) →
+faulty : (registers nodes : ℕ) (role : Role) (v place : ℕ) → place ≤ 24593 + reach role → stands role ≡ true → (fault 8 registers nodes role v ≡ 0 → ⊥) →
     Refusal (fault 8 registers nodes role v) place
-faulty registers nodes Kind v place h s f = wrong (inRange 1 8 v) 4 place (unknown h) f
-faulty registers nodes Operator v place h s f = wrong (ltb v 7) 4 place (unknown h) f
-faulty registers nodes Comparison v place h s f = wrong (ltb v 6) 4 place (unknown h) f
-faulty registers nodes Port v place h s f = wrong (ltb v 256) 4 place (unknown h) f
-faulty registers nodes Register v place h s f = wrong (ltb v registers) 5 place (no-register h) f
-faulty registers nodes Target v place h s f = wrong (ltb v nodes) 6 place (no-target h) f
+faulty registers nodes Kind v place h s f = wrong (inRange 1 8 v) 4 place (unknown (omega arith)) f
+faulty registers nodes Operator v place h s f = wrong (ltb v 7) 4 place (unknown (omega arith)) f
+faulty registers nodes Comparison v place h s f = wrong (ltb v 6) 4 place (unknown (omega arith)) f
+faulty registers nodes Port v place h s f = wrong (ltb v 256) 4 place (unknown (omega arith)) f
+faulty registers nodes Register v place h s f = wrong (ltb v registers) 5 place (no-register (omega arith)) f
+faulty registers nodes Target v place h s f = wrong (ltb v nodes) 6 place (no-target (omega arith)) f
 faulty registers nodes Free v place h s f = absurd (f refl)
 faulty registers nodes Spare v place h s f = absurd (true≢false (sym s))
 
@@ -99,11 +99,11 @@ no-longer bytes Free at r s l h = l .tight 4 h
 no-longer bytes Spare at r s l h = absurd (true≢false (sym s))
 
 module _ (bytes : List ℕ) (registers nodes : ℕ) (few : registers ≤ 64) (fewer : nodes ≤ 2050) where
-  pub field-law : (role : Role) (at : ℕ) → stands role ≡ true → at ≤ 24603 →
+  pub field-law : (role : Role) (at : ℕ) → stands role ≡ true → at ≤ 24593 + reach role →
       Of (Celled bytes registers nodes role at) Refusal (fieldAt bytes registers nodes role at)
   unfolding fieldAt
   field-law role at s h =
-      of-then _ (of-map (λ r l. l) (λ n p m. malformed-at n p at h m) (number-law bytes at)) λ r e l.
+      of-then _ (of-map (λ r l. l) (λ n p m. malformed-at n p at (omega (arith, reach-most role)) m) (number-law bytes at)) λ r e l.
       of-cond (eqb (fault 8 registers nodes role (r .value)) 0) (given r) (refused (fault 8 registers nodes role (r .value)) at)
       (λ t. of-given (in-order r e l (eqb-true _ _ t)))
       (λ t. of-refused (faulty registers nodes role (r .value) at h s (eqb-false _ _ t)))
@@ -113,7 +113,7 @@ module _ (bytes : List ℕ) (registers nodes : ℕ) (few : registers ≤ 64) (fe
       in-order r e l z =
           record { is = rw s e; in-order = z; short = no-longer bytes role at r s l (fits registers nodes role (r .value) few fewer (l .small) z) }
 
-  pub cell-law : (role : Role) (at : ℕ) → at ≤ 24603 → Of (Celled bytes registers nodes role at) Refusal (cellAt bytes registers nodes role at)
+  pub cell-law : (role : Role) (at : ℕ) → at ≤ 24593 + reach role → Of (Celled bytes registers nodes role at) Refusal (cellAt bytes registers nodes role at)
   unfolding cellAt
   cell-law Kind at h = field-law Kind at refl h
   cell-law Operator at h = field-law Operator at refl h

@@ -2,10 +2,8 @@
 -- Assumes nothing.
 use mathlib.Core.Path.{_≡_, refl}
 use Prim.Native.Nat.{ℕ, zero, suc, _+_, _*_, _/_, _%_, _-_, _≤_}
-use native.Mathlib.Nat.{add-suc, add-zero}
 use native.Mathlib.Decide.{ℕ-discrete}
 use native.Mathlib.Omega.{arith}
-use lib.Dec.{lit≤}
 use borrow.Author.Tests.{eq-eqb, ne-eqb}
 use Rattle.graph.specs.declared.Role.{Role}
 use Rattle.graph.specs.declared.Role.the-variants.{Kind, Operator, Comparison, Port, Register, Target, Free, Spare}
@@ -37,29 +35,57 @@ pub used-one : (kind : ℕ) → (used kind 0 ≡ 0) × (used kind 1 ≡ 1)
 unfolding roleAt used
 used-one kind = (refl, refl)
 
--- the longest node is a branch of kind 4: 1 + 1 + 1 + 5 + 2 + 2 bytes
-used-node : (kind : ℕ) → (used kind 5 ≤ 10) × (used kind 6 ≤ 12)
+-- how far into its node a word in a role begins at the latest
+abbrev pub reach : Role → ℕ
+reach Kind = 0
+reach Operator = 1
+reach Comparison = 1
+reach Port = 1
+reach Register = 4
+reach Target = 10
+reach Free = 3
+reach Spare = 10
+
+-- the words 1 to 5 of a node, and its end: the longest is a branch of kind 4, with 1 + 1 + 1 + 5 + 2 + 2 bytes
+abbrev Row : ℕ → Type 0
+Row kind =
+    (used kind 1 ≤ reach (roleAt kind 1))
+    × (used kind 2 ≤ reach (roleAt kind 2))
+    × (used kind 3 ≤ reach (roleAt kind 3))
+    × (used kind 4 ≤ reach (roleAt kind 4))
+    × (used kind 5 ≤ reach (roleAt kind 5))
+    × (used kind 6 ≤ 12)
+
+used-row : (kind : ℕ) → Row kind
 unfolding layouts roleAt used
-used-node zero = (lit≤ tt, lit≤ tt)
-used-node (suc zero) = (lit≤ tt, lit≤ tt)
-used-node (suc (suc zero)) = (lit≤ tt, lit≤ tt)
-used-node (suc (suc (suc zero))) = (lit≤ tt, lit≤ tt)
-used-node (suc (suc (suc (suc zero)))) = (lit≤ tt, lit≤ tt)
-used-node (suc (suc (suc (suc (suc zero))))) = (lit≤ tt, lit≤ tt)
-used-node (suc (suc (suc (suc (suc (suc zero)))))) = (lit≤ tt, lit≤ tt)
-used-node (suc (suc (suc (suc (suc (suc (suc zero))))))) = (lit≤ tt, lit≤ tt)
-used-node (suc (suc (suc (suc (suc (suc (suc (suc kind)))))))) = (lit≤ tt, lit≤ tt)
+used-row zero = omega arith
+used-row (suc zero) = omega arith
+used-row (suc (suc zero)) = omega arith
+used-row (suc (suc (suc zero))) = omega arith
+used-row (suc (suc (suc (suc zero)))) = omega arith
+used-row (suc (suc (suc (suc (suc zero))))) = omega arith
+used-row (suc (suc (suc (suc (suc (suc zero)))))) = omega arith
+used-row (suc (suc (suc (suc (suc (suc (suc zero))))))) = omega arith
+used-row (suc (suc (suc (suc (suc (suc (suc (suc kind)))))))) = omega arith
 
-used-more : (kind word k : ℕ) → used kind word ≤ used kind (word + k)
-used-more kind word zero = rw add-zero (omega arith)
-used-more kind word (suc k) = rw add-suc (omega (arith, used-more kind word k, used-suc kind (word + k)))
+pub used-role : (kind word : ℕ) → word ≤ 5 → used kind word ≤ reach (roleAt kind word)
+used-role kind zero h = omega (arith, used-one kind)
+used-role kind (suc zero) h = used-row kind .0
+used-role kind (suc (suc zero)) h = used-row kind .1
+used-role kind (suc (suc (suc zero))) h = used-row kind .2
+used-role kind (suc (suc (suc (suc zero)))) h = used-row kind .3
+used-role kind (suc (suc (suc (suc (suc zero))))) h = used-row kind .4
+used-role kind (suc (suc (suc (suc (suc (suc word)))))) h = absurd (omega arith)
 
--- a word of a node begins at most 10 bytes after the node
-pub used-before : (kind word : ℕ) → word ≤ 5 → used kind word ≤ 10
-used-before kind word h =
-    let e : word + (5 - word) ≡ 5 = omega arith in
-    let m : used kind word ≤ used kind 5 = rw e at (used-more kind word (5 - word)) in
-    omega (arith, used-node kind)
+pub reach-most : (role : Role) → reach role ≤ 10
+reach-most Kind = omega arith
+reach-most Operator = omega arith
+reach-most Comparison = omega arith
+reach-most Port = omega arith
+reach-most Register = omega arith
+reach-most Target = omega arith
+reach-most Free = omega arith
+reach-most Spare = omega arith
 
 -- word i of a table stands here at the latest, when the first stands at `first`
 abbrev pub Here : ℕ → ℕ → ℕ → ℕ → Type 0
@@ -82,7 +108,7 @@ here-next first i kind at v next h n = by (ℕ-discrete (i % 6) 0) (ℕ-discrete
     by (no z) (yes f) =
         let word : (i + 1) % 6 ≡ 0 = omega arith in
         let node : (i + 1) / 6 ≡ i / 6 + 1 = omega arith in
-        rw (word, node, ne-eqb (i % 6) 0 z) (omega (arith, rw f at h, rw f at n, used-suc kind 5, used-node kind))
+        rw (word, node, ne-eqb (i % 6) 0 z) (omega (arith, rw f at h, rw f at n, used-suc kind 5, used-row kind))
     by (no z) (no f) =
         let word : (i + 1) % 6 ≡ suc (i % 6) = omega arith in
         let node : (i + 1) / 6 ≡ i / 6 = omega arith in

@@ -1,4 +1,5 @@
--- The reader's two passes: the first checks and writes nothing, the second writes what was checked.
+-- Document 01, "Refusal numbers and the order of checks": a refusal changes no lent buffer. So the reader makes two passes:
+-- the first checks and writes nothing, the second writes what was checked. Contracts of private functions cite these.
 -- Assumes nothing.
 use Prim.Native.Nat.{ℕ, zero, suc, _+_, _%_}
 use mathlib.Core.Bool.{cond}

@@ -59,7 +59,7 @@ pub fn check_body(bytes: &[u8], registers: usize, nodes: usize, at: usize) -> Nu
     end
 }
 
-// Every check, in the order of the refusal numbers: R, N, room right after N, the entry, the nodes, and 10 last.
+// Every check in its order: R, N, room right after N, the entry, the nodes, and last the bytes after them.
 pub fn check(bytes: &[u8], room: usize) -> Number
     ensures { λ r. ⌜ passed (readingOf r) ≡ passed (contentsOf (now (bytes .entry)) room) ⌝ }
 {

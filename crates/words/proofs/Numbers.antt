@@ -11,12 +11,12 @@ use lib.ListN.{length, take}
 use lib.Seq.{getD-take}
 use lib.Dec.{eqb, ltb}
 use borrow.Author.Tests.{ltb-true, eqb-true}
-use Rattle.words.specs.Answer.{Answer}
+use Rattle.words.specs.Answer.{Answer, given, refused}
 use Rattle.words.specs.Number.{Reading, reading, byteAt, carry, groups, numberAt, readingOf}
 use Rattle.words.specs.declared.Number.{Number}
 use Rattle.words.specs.declared.Number.the-variants.{Value}
 use Rattle.words.proofs.Ways.{inside-of}
-use Rattle.words.proofs.Answers.{Of, of-given, of-refused, of-demand, of-cond, of-map, when-given, both, either}
+use Rattle.words.proofs.Answers.{Of, of-given, of-refused, of-demand, of-cond, of-map, when-given, when-refused, both, either}
 
 -- what holds of the groups read at a position of the number that begins at `place`, when `more` bytes may follow
 pub record Groups (bytes : List ℕ) (place more at : ℕ) (r : Reading) : Type 0 where
@@ -100,6 +100,12 @@ number-law bytes at = of-map (λ r g. numbered r g) (λ n p m. m) (groups-law by
   where
     numbered : (r : Reading) → Groups bytes at 4 at r → Numbered bytes at r
     numbered r g = record { after = g .after; short = g .short; inside = g .inside; small = g .small; tight = g .tight (omega arith) }
+
+pub number-given : (bytes : List ℕ) (at : ℕ) {r : Reading} → numberAt bytes at ≡ given r → Numbered bytes at r
+number-given bytes at e = when-given e (number-law bytes at)
+
+pub number-refused : (bytes : List ℕ) (at : ℕ) {number place : ℕ} → numberAt bytes at ≡ refused number place → Malformed at number place
+number-refused bytes at e = when-refused e (number-law bytes at)
 
 -- groups over bytes that agree as far as they can reach
 groups-same : (xs ys : List ℕ) (place more at : ℕ) → ((i : ℕ) → i < at + suc more → byteAt xs i ≡ byteAt ys i) →
