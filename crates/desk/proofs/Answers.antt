@@ -5,7 +5,7 @@ use mathlib.Core.Bool.{Bool, true, false}
 use mathlib.Core.List.{List, [], _∷_, _++_}
 use Prim.Native.Nat.{ℕ, zero, suc, _+_, _*_, _/_, _≤_}
 use native.Mathlib.Omega.{arith}
-use lib.ListN.{length, take, drop}
+use lib.ListN.{length, take, drop, replicate, length-replicate}
 use lib.Dec.{leb}
 use lib.Seq.{take-at}
 use Rattle.words.specs.Answer.{Answer, given, refused, demand, andThen, written}
@@ -23,7 +23,12 @@ use Rattle.bench.specs.Runs.{runOf, settled, answerOf, runAnswer, runEvents, mo
 use Rattle.bench.proofs.Bounds.{within}
 use Rattle.bench.proofs.Pairs.{Paired, pairs}
 use Rattle.desk.specs.Lines.{runText, refusalLine}
-use Rattle.desk.specs.Programs.{textOf, runOn, progressText}
+use Rattle.desk.specs.Programs.{tableWords, Graph, loadedOf, readGraph, hardenGraph, graphIn, textOf, runOn, progressText}
+use Rattle.desk.specs.declared.loading.Loaded.{Loaded}
+use Rattle.file.specs.declared.Verdict.{Verdict as Verdict′}
+use Rattle.file.specs.Reading.{readOf, readAnswer, readTable}
+use Rattle.harden.specs.declared.Hardening.{Hardening}
+use Rattle.harden.specs.Hardened.{hardeningOf, hardenAnswer, hardenOutput}
 
 -- a progress whose events come in pairs and fit
 pub record Sized (room : ℕ) (p : Progress) : Type 0 where
@@ -101,3 +106,55 @@ module _ (h : Header) (table inputs buffer : List ℕ) (budget : ℕ) (fault : F
   pub refused-text : (number place : ℕ) → r .verdict ≡ Refused number place → refusalLine number place ≡ text
   unfolding runOn
   refused-text number place v = refused-by answer number place (verdict-is v)
+
+-- a table of zeros is as long as the largest graph's
+pub zeros-length : (table : List ℕ) → table ≡ replicate tableWords 0 → length table ≡ tableWords
+zeros-length table e = ap length e ∙ length-replicate {A = ℕ} tableWords 0
+
+-- what `read` answered and left in a table of zeros
+module _ (bytes table last : List ℕ) (r : Verdict′) (e : table ≡ replicate tableWords 0) (f : readOf r ≡ readAnswer bytes (length table)) (g : last ≡ readTable bytes table) where
+  read-answer : readAnswer bytes tableWords ≡ readOf r
+  read-answer = ap (readAnswer bytes) (sym (zeros-length table e)) ∙ sym f
+
+  pub plain-graph : (h : Header) → r ≡ Verdict′.Graph h → loadedOf (Loaded.Graph h) last ≡ readGraph bytes
+  unfolding readGraph
+  plain-graph h is = rw (read-answer, is, g, e)
+
+  pub plain-refused : (number place : ℕ) → r ≡ Verdict′.Refused number place → loadedOf (Loaded.Refused number place) last ≡ readGraph bytes
+  unfolding readGraph
+  plain-refused number place is = rw (read-answer, is)
+
+-- what `harden` answered and left in a table of zeros
+module _ (h : Header) (source table last : List ℕ) (r : Hardening) (e : table ≡ replicate tableWords 0)
+    (f : hardeningOf r ≡ hardenAnswer (h .registers) (h .nodes) (h .entry) source (length table))
+    (g : last ≡ hardenOutput (h .registers) (h .nodes) (h .entry) source table) where
+  harden-answer : hardenAnswer (h .registers) (h .nodes) (h .entry) source tableWords ≡ hardeningOf r
+  harden-answer = ap (hardenAnswer (h .registers) (h .nodes) (h .entry) source) (sym (zeros-length table e)) ∙ sym f
+
+  pub hardened-graph : (k : Header) → r ≡ Hardening.Hardened k → loadedOf (Loaded.Graph k) last ≡ hardenGraph (record { header = h; table = source })
+  unfolding hardenGraph
+  hardened-graph k is = rw (harden-answer, is, g, e)
+
+  pub hardened-refused : (number place : ℕ) → r ≡ Hardening.Refused number place → loadedOf (Loaded.Refused number place) last ≡ hardenGraph (record { header = h; table = source })
+  unfolding hardenGraph
+  hardened-refused number place is = rw (harden-answer, is)
+
+-- reading, and then hardening
+module _ (bytes source : List ℕ) (r : Loaded) (e : loadedOf r source ≡ readGraph bytes) where
+  then-harden : {x : Loaded} → r ≡ x → andThen (loadedOf x source) hardenGraph ≡ andThen (readGraph bytes) hardenGraph
+  then-harden is = ap (λ (a : Answer Graph). andThen a hardenGraph) (ap (λ (x : Loaded). loadedOf x source) (sym is) ∙ e)
+
+  pub both-graph : (h : Header) (a : Answer Graph) → r ≡ Loaded.Graph h → a ≡ hardenGraph (record { header = h; table = source })
+      → a ≡ andThen (readGraph bytes) hardenGraph
+  both-graph h a is f = f ∙ then-harden is
+
+  pub both-refused : (number place : ℕ) → r ≡ Loaded.Refused number place → refused number place ≡ andThen (readGraph bytes) hardenGraph
+  both-refused number place is = then-harden is
+
+pub load-hardened : (bytes : List ℕ) (a : Answer Graph) (harden : Bool) → harden ≡ true → a ≡ andThen (readGraph bytes) hardenGraph → a ≡ graphIn harden bytes
+unfolding graphIn
+load-hardened bytes a harden is e = rw is e
+
+pub load-plain : (bytes : List ℕ) (a : Answer Graph) (harden : Bool) → harden ≡ false → a ≡ readGraph bytes → a ≡ graphIn harden bytes
+unfolding graphIn
+load-plain bytes a harden is e = rw is e

@@ -15,6 +15,7 @@ use Rattle.bench.specs.Steps.{Progress}
 use Rattle.bench.specs.Runs.{settled, stateOf, runAnswer}
 use Rattle.bench.specs.Campaigns.{campaignAnswer}
 use Rattle.text.specs.Places.{Wrote}
+use Rattle.desk.specs.declared.loading.Loaded.{Loaded}
 use Rattle.desk.specs.declared.Choice.{Choice}
 use Rattle.desk.specs.declared.Choice.the-variants.{Chosen, Other}
 use Rattle.desk.specs.declared.Printed.{Printed}
@@ -36,6 +37,11 @@ tableWords = 12300
 pub record Graph : Type 0 where
   pub header : Header
   pub table : List ℕ
+
+-- a graph for each case of a loading, with the table beside it
+abbrev pub loadedOf : Loaded → List ℕ → Answer Graph
+loadedOf (Loaded.Graph h) table = given (record { header = h; table = table })
+loadedOf (Loaded.Refused number place) table = refused number place
 
 -- the graph that the bytes hold
 unfoldable pub readGraph : List ℕ → Answer Graph

@@ -3,6 +3,7 @@ mod arguments;
 mod graphs;
 mod lines;
 mod listing;
+mod loading;
 
 use bench::Fault;
 
