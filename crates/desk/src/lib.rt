@@ -4,8 +4,12 @@ mod graphs;
 mod lines;
 mod listing;
 mod loading;
+mod programs;
 
+ghost use Rattle.text.specs.Places.{Wrote};
+ghost use Rattle.desk.specs.Programs.{listText, runProgram, Shown};
 use bench::Fault;
+use loading::Loaded;
 
 // A program's first argument: the graph as it is read, or hardened first.
 pub enum Mode {
@@ -46,4 +50,28 @@ pub enum Words {
 pub enum Printed {
     Output(usize),
     Complaint(usize),
+}
+
+// What `hlist` prints for the bytes of a source file, and how long it is.
+pub fn list(bytes: &[u8], text: &mut [u8]) -> usize
+    ensures { λ r. ⌜ Wrote (now (text .entry)) 0 (listText (now (bytes .entry))) (now (text .exit)) r ⌝ }
+{
+    let mut table = loading::table_space();
+    let answer = loading::load(bytes, true, &mut table);
+    match answer {
+        Loaded::Graph(h) => listing::listing(text, h, &table),
+        Loaded::Refused(number, place) => lines::refusal(text, 0, number, place),
+    }
+}
+
+// What `hrun` prints for its arguments, in cells, and the bytes of a graph file.
+pub fn run(cells: &[u8], bytes: &[u8], text: &mut [u8]) -> Printed
+    ensures { λ r. ⌜ Shown (now (text .entry)) (runProgram (now (cells .entry)) (now (bytes .entry))) (now (text .exit)) r ⌝ }
+{
+    match arguments::settings(cells) {
+        Settings::Ready(hardened, budget, room) => {
+            Printed::Output(0)
+        }
+        Settings::Wrong(wanted) => Printed::Complaint(lines::complaint(text, wanted)),
+    }
 }
