@@ -2,6 +2,7 @@
 mod machine;
 mod operators;
 mod runs;
+mod scores;
 mod steps;
 
 pub use machine::run;
