@@ -7,3 +7,4 @@ pub mod Faults
 pub mod Prefixes
 pub mod Turns
 pub mod Checked
+pub mod Forks

@@ -1,13 +1,17 @@
 // The score: the class of each disturbed run, and the walk of the reference that tries one at each branch.
 ghost use mathlib.Core.Path.{_≡_};
-ghost use mathlib.Core.Bool.{Bool, _&&_};
-ghost use Prim.Native.Nat.{_≤_};
+ghost use mathlib.Core.Bool.{Bool, cond, _&&_};
+ghost use Prim.Native.Nat.{_-_, _≤_};
 ghost use lib.Dec.{eqb};
 ghost use lib.ListN.{length, take, drop, replicate};
 ghost use Rattle.bench.specs.Campaigns.{prefixOf, tallied};
-ghost use Rattle.bench.specs.Classes.{Few, classBy, classFor};
+ghost use Rattle.bench.specs.Classes.{Few, Shared, classBy, classFor, forkClass};
+ghost use Rattle.bench.specs.Ready.{Ready, settingOf};
+use crate::Fault;
 use crate::Outcome;
 use crate::Score;
+use crate::State;
+use crate::runs;
 
 // What a disturbed run is counted as.
 pub enum Class {
@@ -101,4 +105,37 @@ fn clear(buffer: &mut [u32])
         buffer[i] = 0;
         i += 1;
     }
+}
+
+// The score after a step of the reference: where the step is a branch, the run in which it goes to its other target is made
+// and counted.
+fn tried(
+    table: &[u32],
+    inputs: &[u32],
+    reference: &[u32],
+    total: usize,
+    value: u32,
+    events: &mut [u32],
+    budget: usize,
+    branches: usize,
+    from: State,
+    words: usize,
+    score: Score,
+) -> Score
+    requires { ⌜ Ready (now table) budget from ⌝ }
+    requires { ⌜ Shared (now reference) total (now events) words ⌝ }
+    requires { ⌜ Few score ⌝ }
+    ensures { λ r. ⌜ r ≡ cond (eqb branches 0) score (tallied (forkClass (settingOf (now (table .entry)) (now (inputs .entry)) (length (now (events .entry)))) value (take total (now (reference .entry))) from words (now (events .entry)) (budget - from .steps)) score) ⌝ }
+    ensures { λ _. ⌜ take words (now (events .exit)) ≡ take words (now (events .entry)) ⌝ }
+{
+    if branches == 0 {
+        return score;
+    }
+    let room = events.len();
+    let fault = Fault::Inverted(from.branches);
+    let ended = runs::proceed(table, inputs, events, room, budget, fault, from, words);
+    let made = ended.words;
+    let prefix = agrees(reference, total, events, made, words);
+    let outcome = ended.outcome;
+    tally(classed(outcome, value, prefix, made == total), score)
 }
