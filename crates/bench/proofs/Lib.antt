@@ -8,3 +8,5 @@ pub mod Prefixes
 pub mod Turns
 pub mod Checked
 pub mod Forks
+pub mod Tallies
+pub mod Walks
