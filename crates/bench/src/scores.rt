@@ -4,7 +4,10 @@ ghost use mathlib.Core.Bool.{Bool, cond, _&&_};
 ghost use Prim.Native.Nat.{_-_, _≤_};
 ghost use lib.Dec.{eqb};
 ghost use lib.ListN.{length, take, drop, replicate};
-ghost use Rattle.bench.specs.Campaigns.{prefixOf, tallied};
+ghost use Rattle.bench.specs.Campaigns.{prefixOf, tallied, noScore, scoreBelow};
+ghost use Rattle.bench.specs.Steps.{start};
+ghost use Rattle.bench.specs.Runs.{runOf, stateOf};
+ghost use Rattle.bench.specs.declared.Fault.the-variants.{Undisturbed};
 ghost use Rattle.bench.specs.Classes.{Few, Shared, classBy, classFor, forkClass};
 ghost use Rattle.bench.specs.Ready.{Ready, settingOf};
 use crate::Fault;
@@ -12,6 +15,8 @@ use crate::Outcome;
 use crate::Score;
 use crate::State;
 use crate::runs;
+use crate::runs::Ending;
+use crate::steps;
 
 // What a disturbed run is counted as.
 pub enum Class {
@@ -96,8 +101,21 @@ fn tally(class: Class, score: Score) -> Score
     }
 }
 
+fn none() -> Score
+    ensures { λ r. ⌜ r ≡ noScore ⌝ }
+{
+    Score {
+        positions: 0,
+        caught: 0,
+        late: 0,
+        harmless: 0,
+        changed: 0,
+        unended: 0,
+    }
+}
+
 // A buffer is set to zeros.
-fn clear(buffer: &mut [u32])
+pub fn clear(buffer: &mut [u32])
     ensures { λ _. ⌜ now (buffer .exit) ≡ replicate (length (now (buffer .entry))) 0 ⌝ }
 {
     let mut i = 0;
@@ -138,4 +156,65 @@ fn tried(
     let prefix = agrees(reference, total, events, made, words);
     let outcome = ended.outcome;
     tally(classed(outcome, value, prefix, made == total), score)
+}
+
+// The reference is walked once more, and at each of its branches the run that inverts it is tried. Before the branch both are the
+// same, so it is made from there on: the state is copied, and the words of the events so far already lie in the buffer.
+pub fn walk(
+    table: &[u32],
+    inputs: &[u32],
+    reference: &[u32],
+    total: usize,
+    value: u32,
+    events: &mut [u32],
+    entry: usize,
+    budget: usize,
+) -> Score
+    requires { ⌜ Ready (now table) budget (stateOf (start entry)) ⌝ }
+    requires { ⌜ total ≤ length (now reference) ⌝ }
+    requires { ⌜ take total (now reference) ≡ runOf (settingOf (now table) (now inputs) (length (now events))) Undisturbed entry budget .machine .events ⌝ }
+    ensures { λ r. ⌜ r ≡ scoreBelow (settingOf (now (table .entry)) (now (inputs .entry)) (length (now (events .entry)))) entry budget value (take total (now (reference .entry))) (runOf (settingOf (now (table .entry)) (now (inputs .entry)) (length (now (events .entry)))) Undisturbed entry budget .machine .branches) ⌝ }
+{
+    let room = events.len();
+    let mut state = runs::start(entry);
+    let mut words = 0;
+    let mut score = none();
+    while state.steps < budget {
+        let effect = steps::effect_at(
+            table,
+            inputs,
+            &state.registers,
+            state.node,
+            state.reads,
+            false,
+        );
+        let sequel = effect.sequel;
+        if !runs::has_room(sequel, words, room) {
+            return score;
+        }
+        score = tried(
+            table,
+            inputs,
+            reference,
+            total,
+            value,
+            events,
+            budget,
+            effect.branches,
+            state,
+            words,
+            score,
+        );
+        words = runs::write_event(events, words, sequel, effect.value, room);
+        let register = effect.register;
+        state.registers[register] = effect.value;
+        state.node = effect.next;
+        state.steps += 1;
+        state.branches += effect.branches;
+        state.reads += effect.reads;
+        if let Ending::With(_) = runs::ends(sequel, effect.value) {
+            return score;
+        }
+    }
+    score
 }
