@@ -10,3 +10,4 @@ pub mod Checked
 pub mod Forks
 pub mod Tallies
 pub mod Walks
+pub mod Campaigned
