@@ -4,7 +4,7 @@ use mathlib.Core.Path.{_≡_, refl, sym, ap, _∙_, subst}
 use mathlib.Core.Bool.{Bool, true, false, cond}
 use mathlib.Core.List.{List, [], _∷_, _++_}
 use Prim.Native.Nat.{ℕ, zero, suc, _+_, _≤_}
-use native.Mathlib.Numerals.{add-one}
+use native.Mathlib.Nat.{add-zero, zero-add}
 use native.Mathlib.Omega.{arith}
 use borrow.Author.Tests.{leb-true}
 use lib.ListN.{length, length-append}
@@ -69,10 +69,19 @@ module _ (s : Setting) (fault : Fault) where
       refl)
   within-of rounds m w (ended outcome) = record { steps = omega arith; branches = w .branches; reads = w .reads; events = w .events }
 
-  -- what a run never exceeds, after any number of rounds from its start
+  -- from any machine within bounds, after any number of rounds
+  pub within-after : (from : ℕ) (p : Progress) → Within (s .room) from (p .machine) → (rounds : ℕ) → Within (s .room) (from + rounds) (after s fault p rounds .machine)
+  unfolding after next
+  within-after from p w zero = rw add-zero w
+  within-after from p w (suc rounds) =
+      let q = after s fault p rounds in
+      let more : from + suc rounds ≡ from + rounds + 1 = omega arith in
+      rw more (within-of (from + rounds) (q .machine) (within-after from p w rounds) (q .status))
+
+  -- from the start
   pub within : (entry rounds : ℕ) → Within (s .room) rounds (runOf s fault entry rounds .machine)
-  unfolding runOf after next start
-  within entry zero = record { steps = omega arith; branches = omega arith; reads = omega arith; events = omega arith }
-  within entry (suc rounds) =
-      let p = after s fault (at (start entry) going) rounds in
-      rw (← add-one) (within-of rounds (p .machine) (within entry rounds) (p .status))
+  unfolding runOf start
+  within entry rounds =
+      let first : Within (s .room) 0 (start entry) = record { steps = omega arith; branches = omega arith; reads = omega arith; events = omega arith } in
+      subst (λ (n : ℕ). Within (s .room) n (runOf s fault entry rounds .machine)) (zero-add rounds)
+      (within-after 0 (at (start entry) going) first rounds)

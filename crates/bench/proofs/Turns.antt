@@ -82,7 +82,7 @@ module _ (table inputs : List ℕ) (room budget : ℕ) (fault : Fault) (state : 
       }
 
 -- the words at the head of a buffer, put there, change nothing
-put-take : (l : List ℕ) (n : ℕ) → n ≤ length l → put l 0 (take n l) ≡ l
+pub put-take : (l : List ℕ) (n : ℕ) → n ≤ length l → put l 0 (take n l) ≡ l
 unfolding over
 put-take l n h =
     let e : length (take n l) ≡ n = length-take-le n l h in

@@ -77,14 +77,18 @@ scoreOf s entry budget m Caught = refused 13 0
 scoreOf s entry budget m Spent = refused 13 0
 scoreOf s entry budget m Full = refused 13 0
 
+-- the score of a graph, or 13
+abbrev pub scoreAnswer : Setting → ℕ → ℕ → Answer Score
+scoreAnswer s entry budget =
+    let reference = runOf s Undisturbed entry budget in
+    scoreOf s entry budget (reference .machine) (settled (reference .status))
+
 -- the graph's checks, 12, 14, then 13
 unfoldable pub campaignAnswer : ℕ → ℕ → ℕ → List ℕ → List ℕ → ℕ → ℕ → ℕ → Answer Score
 campaignAnswer registers nodes entry table inputs first second budget =
     let s : Setting = record { graph = nodeAt table; inputs = inputs; room = first } in
-    let reference = runOf s Undisturbed entry budget in
-    let score = scoreOf s entry budget (reference .machine) (settled (reference .status)) in
     andThen (runnableCheck registers nodes entry table) λ _.
-    demand (leb budget mostSteps) 12 0 (demand (eqb first second) 14 0 score)
+    demand (leb budget mostSteps) 12 0 (demand (eqb first second) 14 0 (scoreAnswer s entry budget))
 
 -- the reference events over the first words of the first buffer
 unfoldable pub campaignFirst : ℕ → ℕ → ℕ → List ℕ → List ℕ → List ℕ → List ℕ → ℕ → List ℕ

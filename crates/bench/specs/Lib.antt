@@ -4,3 +4,4 @@ pub mod Effects
 pub mod Runs
 pub mod Ready
 pub mod Campaigns
+pub mod Classes

@@ -1,10 +1,16 @@
 // One step, a run, a campaign.
+mod campaigns;
 mod machine;
 mod operators;
 mod runs;
+mod scores;
 mod steps;
 
+pub use campaigns::campaign;
 pub use machine::run;
+
+// The largest budget.
+const MOST_STEPS: usize = 100000;
 
 // The machine's state: its registers, the node to execute next, and what has been counted so far.
 pub struct State {

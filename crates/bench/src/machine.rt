@@ -5,13 +5,11 @@ ghost use Rattle.words.specs.Answer.{Answer};
 ghost use Rattle.words.specs.Answer.Answer.{refused};
 ghost use Rattle.bench.specs.Runs.{answerOf, runAnswer, runEvents};
 use crate::Fault;
+use crate::MOST_STEPS;
 use crate::RunAnswer;
 use crate::Verdict;
 use crate::runs;
 use graph::Check;
-
-// The largest budget.
-const MOST_STEPS: usize = 100000;
 
 fn refused(number: u32, place: usize) -> RunAnswer
     ensures { λ r. ⌜ r ≡ answerOf (refused number place) ⌝ }

@@ -29,7 +29,7 @@ pub enum Ending {
 }
 
 // Whether what follows a step fits: an event needs two words of room.
-fn has_room(sequel: Sequel, words: usize, room: usize) -> bool
+pub fn has_room(sequel: Sequel, words: usize, room: usize) -> bool
     ensures { λ r. ⌜ r ≡ hasRoom sequel words room ⌝ }
 {
     match sequel {
@@ -46,7 +46,7 @@ fn has_room(sequel: Sequel, words: usize, room: usize) -> bool
 }
 
 // Whether a step ends the run.
-fn ends(sequel: Sequel, value: u32) -> Ending
+pub fn ends(sequel: Sequel, value: u32) -> Ending
     ensures { λ r. ⌜ statusOf r ≡ statusAfter sequel value ⌝ }
 {
     match sequel {
@@ -67,7 +67,13 @@ fn write(buffer: &mut [u32], i: usize, value: u32)
 }
 
 // The event of a step, if it makes one, is written after so many words; how many there are then.
-fn write_event(events: &mut [u32], words: usize, sequel: Sequel, value: u32, room: usize) -> usize
+pub fn write_event(
+    events: &mut [u32],
+    words: usize,
+    sequel: Sequel,
+    value: u32,
+    room: usize,
+) -> usize
     requires { ⌜ hasRoom sequel words room ≡ true ⌝ }
     ensures { λ r. ⌜ r ≡ words + length (eventWords sequel value) ⌝ }
     ensures { λ _. ⌜ now (events .exit) ≡ put (now (events .entry)) words (eventWords sequel value) ⌝ }

@@ -1,0 +1,134 @@
+-- From a checked table to a campaign: the trial run decides on refusal 13, and what the walk scores is what a campaign answers.
+-- Assumes nothing.
+use mathlib.Core.Path.{_≡_, refl, sym, ap, _∙_}
+use mathlib.Core.Logic.{_⊎_, inl, inr, ⊎-elim}
+use mathlib.Core.List.{List, [], _∷_}
+use Prim.Native.Nat.{ℕ, _-_, _≤_, _<_}
+use native.Mathlib.Omega.{arith}
+use borrow.Author.Tests.{le-leb, lt-leb, eq-eqb, ne-eqb}
+use denote.Enum.Declared.{tagOf}
+use types.Run.{OneOf}
+use lib.ListN.{length, take, replicate}
+use Rattle.words.specs.Answer.{Answer, given, refused, written}
+use Rattle.words.specs.Buffer.{over, put}
+use Rattle.words.proofs.Puts.{length-put}
+use Rattle.graph.specs.Checks.{runnableCheck}
+use Rattle.bench.specs.Steps.{Machine, Setting, Progress, start}
+use Rattle.bench.specs.Runs.{runOf, settled, stateOf, mostSteps}
+use Rattle.bench.specs.Ready.{settingOf, restOf, endedOf}
+use Rattle.bench.specs.Campaigns.{campaignOf, scoreBelow, scoreOf, scoreAnswer, campaignAnswer, campaignFirst, campaignSecond}
+use Rattle.bench.proofs.Outcome.{the-type}
+use Rattle.bench.proofs.Bounds.{within}
+use Rattle.bench.proofs.Checked.{rest-of-start, events-over}
+use Rattle.bench.proofs.Forks.{take-put-all}
+use Rattle.bench.specs.declared.CampaignAnswer.{CampaignAnswer}
+use Rattle.bench.specs.declared.CampaignAnswer.the-variants.{Scored, Refused}
+use Rattle.bench.specs.declared.Fault.the-variants.{Undisturbed}
+use Rattle.bench.specs.declared.Outcome.{Outcome}
+use Rattle.bench.specs.declared.Outcome.the-variants.{Returned, Caught, Spent, Full}
+use Rattle.bench.specs.declared.Score.{Score}
+use Rattle.bench.specs.declared.State.{State}
+use Rattle.bench.specs.declared.runs.Ended.{Ended}
+
+-- a run that ended in any other way than with a value
+no-value : (s : Setting) (entry budget : ℕ) (m : Machine) (o : Outcome) → OneOf (1 ∷ 2 ∷ 3 ∷ []) (tagOf the-type o) → scoreOf s entry budget m o ≡ refused 13 0
+no-value s entry budget m (Returned v) h =
+    absurd (⊎-elim (λ e. omega arith) (λ h. ⊎-elim (λ e. omega arith) (λ e. omega arith) h) h)
+no-value s entry budget m Caught h = refl
+no-value s entry budget m Spent h = refl
+no-value s entry budget m Full h = refl
+
+module _ (table inputs first second : List ℕ) (entry budget : ℕ) where
+  abbrev s : Setting
+  s = settingOf table inputs (length first)
+
+  abbrev run : Progress
+  run = runOf s Undisturbed entry budget
+
+  -- what the score of a checked graph answers and writes
+  abbrev pub Reports : CampaignAnswer → List ℕ → List ℕ → Type 0
+  Reports r last cleared =
+      (campaignOf r ≡ scoreAnswer s entry budget)
+      × ((last ≡ written (scoreAnswer s entry budget) (λ _. over (run .machine .events) first) first)
+      × (cleared ≡ written (scoreAnswer s entry budget) (λ _. replicate (length second) 0) second))
+
+  reports : (r : CampaignAnswer) → scoreAnswer s entry budget ≡ campaignOf r → Reports r (written (campaignOf r) (λ _. over (run .machine .events) first) first) (written (campaignOf r) (λ _. replicate (length second) 0) second)
+  reports r e = rw e (refl, (refl, refl))
+
+  -- a trial run that does not return
+  pub scored-none : (nowhere : List ℕ) (from : State) (trial : Ended) → from ≡ stateOf (start entry) → trial ≡ endedOf (restOf s Undisturbed from 0 nowhere (budget - from .steps))
+      → OneOf (1 ∷ 2 ∷ 3 ∷ []) (tagOf the-type (trial .outcome)) → Reports (Refused 13 0) first second
+  scored-none nowhere from trial e made other =
+      let ends : trial .outcome ≡ settled (run .status) = ap (λ (r : Ended). r .outcome) (made ∙ ap endedOf (rest-of-start s Undisturbed entry nowhere budget from e)) in
+      reports (Refused 13 0) (no-value s entry budget (run .machine) (settled (run .status)) (rw ends at other))
+
+  -- what the second run leaves in the first buffer
+  pub record Kept (total : ℕ) (last : List ℕ) : Type 0 where
+    pub whole : total ≤ length last
+    pub events : take total last ≡ run .machine .events
+    pub over-first : last ≡ over (run .machine .events) first
+
+  pub reference-kept : (from : State) (reference : Ended) (last : List ℕ) → from ≡ stateOf (start entry)
+      → reference ≡ endedOf (restOf s Undisturbed from 0 first (budget - from .steps)) → last ≡ put first 0 (restOf s Undisturbed from 0 first (budget - from .steps) .machine .events)
+      → Kept (reference .words) last
+  reference-kept from reference last e made wrote =
+      let rest = rest-of-start s Undisturbed entry first budget from e in
+      let count : reference .words ≡ length (run .machine .events) = ap (λ (r : Ended). r .words) (made ∙ ap endedOf rest) in
+      let puts : last ≡ put first 0 (run .machine .events) = wrote ∙ ap (λ (p : Progress). put first 0 (p .machine .events)) rest in
+      let size = ap length puts ∙ length-put first 0 (run .machine .events) in
+      let fits : length (run .machine .events) ≤ length first = within s Undisturbed entry budget .events in
+      record {
+        whole = omega arith;
+        events = ap (take (reference .words)) puts ∙ take-put-all first (run .machine .events) (reference .words) fits count;
+        over-first = puts ∙ events-over s Undisturbed entry budget first refl;
+      }
+
+  -- a trial run that returned a value
+  module _ (nowhere : List ℕ) (from : State) (trial : Ended) (value : ℕ) (e : from ≡ stateOf (start entry)) (made : trial ≡ endedOf (restOf s Undisturbed from 0 nowhere (budget - from .steps))) (returned : trial .outcome ≡ Returned value) where
+    answered : scoreAnswer s entry budget ≡ given (scoreBelow s entry budget value (run .machine .events) (run .machine .branches))
+    answered =
+        let ends : trial .outcome ≡ settled (run .status) = ap (λ (r : Ended). r .outcome) (made ∙ ap endedOf (rest-of-start s Undisturbed entry nowhere budget from e)) in
+        ap (scoreOf s entry budget (run .machine)) (sym ends ∙ returned)
+
+    pub scored-some : (total n : ℕ) (last cleared : List ℕ) (score : Score) → length first ≡ length second → Kept total last
+        → score ≡ scoreBelow (settingOf table inputs (length second)) entry budget value (take total last) (runOf (settingOf table inputs (length second)) Undisturbed entry budget .machine .branches)
+        → n ≡ length second → cleared ≡ replicate n 0 → Reports (Scored score) last cleared
+    scored-some total n last cleared score size kept scores same clears =
+        let is : scoreBelow s entry budget value (run .machine .events) (run .machine .branches) ≡ score =
+        sym (scores ∙ (rw (← size, kept .events))) in
+        rw (kept .over-first, clears, same) (reports (Scored score) (answered ∙ ap given is))
+
+module _ (registers nodes entry : ℕ) (table inputs first second : List ℕ) (budget : ℕ) where
+  abbrev pub Campaigns : CampaignAnswer → List ℕ → List ℕ → Type 0
+  Campaigns r last cleared =
+      (campaignOf r ≡ campaignAnswer registers nodes entry table inputs (length first) (length second) budget)
+      × ((last ≡ campaignFirst registers nodes entry table inputs first second budget)
+      × (cleared ≡ campaignSecond registers nodes entry table inputs first second budget))
+
+  -- one answer, and with it what both buffers hold
+  campaigns : (answer : Answer Score) → campaignAnswer registers nodes entry table inputs (length first) (length second) budget ≡ answer → (r : CampaignAnswer) {last cleared : List ℕ}
+      → campaignOf r ≡ answer
+      → last ≡ written answer (λ _. over (runOf (settingOf table inputs (length first)) Undisturbed entry budget .machine .events) first) first
+      → cleared ≡ written answer (λ _. replicate (length second) 0) second
+      → Campaigns r last cleared
+  unfolding campaignFirst campaignSecond
+  campaigns answer e r a b c = rw e (a, (b, c))
+
+  pub campaign-refused : (number place : ℕ) → runnableCheck registers nodes entry table ≡ refused number place → Campaigns (Refused number place) first second
+  unfolding campaignAnswer
+  campaign-refused number place no-graph = campaigns (refused number place) (rw no-graph) (Refused number place) refl refl refl
+
+  module _ (ok : runnableCheck registers nodes entry table ≡ given tt) where
+    pub campaign-twelve : mostSteps < budget → Campaigns (Refused 12 0) first second
+    unfolding campaignAnswer
+    campaign-twelve h = campaigns (refused 12 0) (rw (ok, lt-leb budget mostSteps h)) (Refused 12 0) refl refl refl
+
+    pub campaign-fourteen : budget ≤ mostSteps → (length first ≡ length second → ⊥) → Campaigns (Refused 14 0) first second
+    unfolding campaignAnswer
+    campaign-fourteen h differ =
+        campaigns (refused 14 0) (rw (ok, le-leb budget mostSteps h, ne-eqb (length first) (length second) differ)) (Refused 14 0) refl refl refl
+
+    pub campaign-scored : budget ≤ mostSteps → length first ≡ length second → (r : CampaignAnswer) (last cleared : List ℕ) → Reports table inputs first second entry budget r last cleared → Campaigns r last cleared
+    unfolding campaignAnswer
+    campaign-scored h same r last cleared reported =
+        campaigns _ (rw (ok, le-leb budget mostSteps h, eq-eqb (length first) (length second) same)) r (reported .0) (reported .1 .0) (reported .1 .1)

@@ -1,0 +1,220 @@
+// The score: the class of each disturbed run, and the walk of the reference that tries one at each branch.
+ghost use mathlib.Core.Path.{_≡_};
+ghost use mathlib.Core.Bool.{Bool, cond, _&&_};
+ghost use Prim.Native.Nat.{_-_, _≤_};
+ghost use lib.Dec.{eqb};
+ghost use lib.ListN.{length, take, drop, replicate};
+ghost use Rattle.bench.specs.Campaigns.{prefixOf, tallied, noScore, scoreBelow};
+ghost use Rattle.bench.specs.Steps.{start};
+ghost use Rattle.bench.specs.Runs.{runOf, stateOf};
+ghost use Rattle.bench.specs.declared.Fault.the-variants.{Undisturbed};
+ghost use Rattle.bench.specs.Classes.{Few, Shared, classBy, classFor, forkClass};
+ghost use Rattle.bench.specs.Ready.{Ready, settingOf};
+use crate::Fault;
+use crate::Outcome;
+use crate::Score;
+use crate::State;
+use crate::runs;
+use crate::runs::Ending;
+use crate::steps;
+
+// What a disturbed run is counted as.
+pub enum Class {
+    Caught,
+    Late,
+    Harmless,
+    Changed,
+    Unended,
+}
+
+// Whether the first words of the events are a prefix of those of the reference, looked at from a place only.
+fn agrees(reference: &[u32], total: usize, events: &[u32], words: usize, from: usize) -> bool
+    requires { ⌜ (total ≤ length (now reference)) × (words ≤ length (now events)) × (from ≤ total) ⌝ }
+    ensures { λ r. ⌜ r ≡ prefixOf (drop from (take words (now (events .entry)))) (drop from (take total (now (reference .entry)))) ⌝ }
+{
+    if total < words {
+        return false;
+    }
+    let mut i = from;
+    while i < words {
+        if events[i] != reference[i] {
+            return false;
+        }
+        i += 1;
+    }
+    true
+}
+
+fn unchanged(value: u32, other: u32, prefix: bool, whole: bool) -> bool
+    ensures { λ r. ⌜ r ≡ (eqb other value && (prefix && whole)) ⌝ }
+{
+    other == value && (prefix && whole)
+}
+
+// The class of a run by its outcome, beside the reference's value, and by whether its events are a prefix of the reference's
+// and as many.
+fn classed(outcome: Outcome, value: u32, prefix: bool, whole: bool) -> Class
+    ensures { λ r. ⌜ classFor r ≡ classBy value prefix whole outcome ⌝ }
+{
+    match outcome {
+        Outcome::Returned(other) => {
+            if unchanged(value, other, prefix, whole) {
+                Class::Harmless
+            } else {
+                Class::Changed
+            }
+        }
+        Outcome::Caught => { if prefix { Class::Caught } else { Class::Late } }
+        Outcome::Spent => Class::Unended,
+        Outcome::Full => Class::Changed,
+    }
+}
+
+// The score with one position more.
+fn tally(class: Class, score: Score) -> Score
+    requires { ⌜ Few score ⌝ }
+    ensures { λ r. ⌜ r ≡ tallied (classFor class) score ⌝ }
+{
+    let mut score = score;
+    score.positions += 1;
+    match class {
+        Class::Caught => {
+            score.caught += 1;
+            score
+        }
+        Class::Late => {
+            score.late += 1;
+            score
+        }
+        Class::Harmless => {
+            score.harmless += 1;
+            score
+        }
+        Class::Changed => {
+            score.changed += 1;
+            score
+        }
+        Class::Unended => {
+            score.unended += 1;
+            score
+        }
+    }
+}
+
+fn none() -> Score
+    ensures { λ r. ⌜ r ≡ noScore ⌝ }
+{
+    Score {
+        positions: 0,
+        caught: 0,
+        late: 0,
+        harmless: 0,
+        changed: 0,
+        unended: 0,
+    }
+}
+
+// A buffer is set to zeros.
+pub fn clear(buffer: &mut [u32])
+    ensures { λ _. ⌜ now (buffer .exit) ≡ replicate (length (now (buffer .entry))) 0 ⌝ }
+{
+    let mut i = 0;
+    while i < buffer.len() {
+        buffer[i] = 0;
+        i += 1;
+    }
+}
+
+// The score after a step of the reference: where the step is a branch, the run in which it goes to its other target is made
+// and counted.
+fn tried(
+    table: &[u32],
+    inputs: &[u32],
+    reference: &[u32],
+    total: usize,
+    value: u32,
+    events: &mut [u32],
+    budget: usize,
+    branches: usize,
+    from: State,
+    words: usize,
+    score: Score,
+) -> Score
+    requires { ⌜ Ready (now table) budget from ⌝ }
+    requires { ⌜ Shared (now reference) total (now events) words ⌝ }
+    requires { ⌜ Few score ⌝ }
+    ensures { λ r. ⌜ r ≡ cond (eqb branches 0) score (tallied (forkClass (settingOf (now (table .entry)) (now (inputs .entry)) (length (now (events .entry)))) value (take total (now (reference .entry))) from words (now (events .entry)) (budget - from .steps)) score) ⌝ }
+    ensures { λ _. ⌜ take words (now (events .exit)) ≡ take words (now (events .entry)) ⌝ }
+{
+    if branches == 0 {
+        return score;
+    }
+    let room = events.len();
+    let fault = Fault::Inverted(from.branches);
+    let ended = runs::proceed(table, inputs, events, room, budget, fault, from, words);
+    let made = ended.words;
+    let prefix = agrees(reference, total, events, made, words);
+    let outcome = ended.outcome;
+    tally(classed(outcome, value, prefix, made == total), score)
+}
+
+// The reference is walked once more, and at each of its branches the run that inverts it is tried. Before the branch both are the
+// same, so it is made from there on: the state is copied, and the words of the events so far already lie in the buffer.
+pub fn walk(
+    table: &[u32],
+    inputs: &[u32],
+    reference: &[u32],
+    total: usize,
+    value: u32,
+    events: &mut [u32],
+    entry: usize,
+    budget: usize,
+) -> Score
+    requires { ⌜ Ready (now table) budget (stateOf (start entry)) ⌝ }
+    requires { ⌜ total ≤ length (now reference) ⌝ }
+    requires { ⌜ take total (now reference) ≡ runOf (settingOf (now table) (now inputs) (length (now events))) Undisturbed entry budget .machine .events ⌝ }
+    ensures { λ r. ⌜ r ≡ scoreBelow (settingOf (now (table .entry)) (now (inputs .entry)) (length (now (events .entry)))) entry budget value (take total (now (reference .entry))) (runOf (settingOf (now (table .entry)) (now (inputs .entry)) (length (now (events .entry)))) Undisturbed entry budget .machine .branches) ⌝ }
+{
+    let room = events.len();
+    let mut state = runs::start(entry);
+    let mut words = 0;
+    let mut score = none();
+    while state.steps < budget {
+        let effect = steps::effect_at(
+            table,
+            inputs,
+            &state.registers,
+            state.node,
+            state.reads,
+            false,
+        );
+        let sequel = effect.sequel;
+        if !runs::has_room(sequel, words, room) {
+            return score;
+        }
+        score = tried(
+            table,
+            inputs,
+            reference,
+            total,
+            value,
+            events,
+            budget,
+            effect.branches,
+            state,
+            words,
+            score,
+        );
+        words = runs::write_event(events, words, sequel, effect.value, room);
+        let register = effect.register;
+        state.registers[register] = effect.value;
+        state.node = effect.next;
+        state.steps += 1;
+        state.branches += effect.branches;
+        state.reads += effect.reads;
+        if let Ending::With(_) = runs::ends(sequel, effect.value) {
+            return score;
+        }
+    }
+    score
+}
