@@ -8,3 +8,4 @@ pub mod Turns
 pub mod Graded
 pub mod Signatures
 pub mod Answers
+pub mod Edges
