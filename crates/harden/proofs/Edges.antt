@@ -70,7 +70,7 @@ slots-among (t ∷ ts) n i zero o h p q = absurd (not-suc-le-zero o)
 slots-among (t ∷ ts) n zero (suc j) o h p q = rw (eq-eqb t n p) (omega (arith, slot-among ts n j (le-of-suc-le-suc h) q))
 slots-among (t ∷ ts) n (suc i) (suc j) o h p q = omega (arith, slots-among ts n i j (le-of-suc-le-suc o) (le-of-suc-le-suc h) p q)
 
-absurd-bool : {A : Type 0} → _≡_ {A = Bool} false true → A
+pub absurd-bool : {A : Type 0} → _≡_ {A = Bool} false true → A
 absurd-bool e = let z : _≡_ {A = ℕ} 0 1 = cc in absurd (omega arith)
 
 -- ---- a graph

@@ -9,3 +9,5 @@ pub mod Graded
 pub mod Signatures
 pub mod Answers
 pub mod Edges
+pub mod Leaders
+pub mod Ranks
