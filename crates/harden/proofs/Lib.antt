@@ -11,3 +11,5 @@ pub mod Answers
 pub mod Edges
 pub mod Leaders
 pub mod Ranks
+pub mod Crossings
+pub mod Listing
