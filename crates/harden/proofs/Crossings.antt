@@ -28,13 +28,14 @@ plain-slot stop j plain h = absurd (omega arith)
 module _ (s : Source) (m : ℕ) where
   crosses-edge : (node : Node) → s .graph m ≡ node → m < s .nodes → crosses (isLeader s) node ≡ true → (l : ℕ) × CrossingEdge (s .graph) (s .nodes) (s .entry) m l
   unfolding isLeader
-  crosses-edge (go action next) is h led =
-      (next,
-      record {
-        no-branch = rw is;
-        edge = record { inside = h; slot = rw is (omega arith); leads = rw is };
-        to = leader-means (s .graph) (s .nodes) (s .entry) next .0 led;
-      })
+  crosses-edge (go action next) is h led = (
+    next,
+    record {
+      no-branch = rw is;
+      edge = record { inside = h; slot = rw is (omega arith); leads = rw is };
+      to = leader-means (s .graph) (s .nodes) (s .entry) next .0 led;
+    },
+  )
   crosses-edge (branch c a b t f) is h led = absurd-bool led
   crosses-edge (ret a) is h led = absurd-bool led
   crosses-edge stop is h led = absurd-bool led
@@ -48,17 +49,19 @@ module _ (s : Source) (m : ℕ) where
   -- the test and the crossing edge
   pub crossing-means : m < s .nodes → (crossing s m ≡ true) ↔ ((l : ℕ) × CrossingEdge (s .graph) (s .nodes) (s .entry) m l)
   unfolding crossing isLeader
-  crossing-means h =
-      (crosses-edge (s .graph m) refl h,
-      λ (l, c). edge-crosses (s .graph m) (c .no-branch) (c .edge .slot) (c .edge .leads) (leader-means (s .graph) (s .nodes) (s .entry) l .1 (c .to)))
+  crossing-means h = (
+    crosses-edge (s .graph m) refl h,
+    λ (l, c). edge-crosses (s .graph m) (c .no-branch) (c .edge .slot) (c .edge .leads) (leader-means (s .graph) (s .nodes) (s .entry) l .1 (c .to)),
+  )
 
 module _ (s : Source) where
   -- both targets of a branch are leaders
   pub targets-lead : (n c a t f : ℕ) (b : Operand) → n < s .nodes → s .graph n ≡ branch c a b t f → (isLeader s t ≡ true) × (isLeader s f ≡ true)
   unfolding isLeader
-  targets-lead n c a t f b h is =
-      (leader-means (s .graph) (s .nodes) (s .entry) t .1 (branch-target n 0 (rw is) (record { inside = h; slot = rw is (omega arith); leads = rw is })),
-      leader-means (s .graph) (s .nodes) (s .entry) f .1 (branch-target n 1 (rw is) (record { inside = h; slot = rw is (omega arith); leads = rw is })))
+  targets-lead n c a t f b h is = (
+    leader-means (s .graph) (s .nodes) (s .entry) t .1 (branch-target n 0 (rw is) (record { inside = h; slot = rw is (omega arith); leads = rw is })),
+    leader-means (s .graph) (s .nodes) (s .entry) f .1 (branch-target n 1 (rw is) (record { inside = h; slot = rw is (omega arith); leads = rw is })),
+  )
 
   -- leaders with one signature are one
   pub sign-apart : Distinct (s .plan) → s .nodes ≤ 256 → (t f : ℕ) → t < s .nodes → f < s .nodes → isLeader s t ≡ true → isLeader s f ≡ true → sign s t ≡ sign s f → t ≡ f
@@ -66,7 +69,7 @@ module _ (s : Source) where
   sign-apart = signature-apart (s .graph) (s .nodes) (s .entry) (s .plan)
 
   module _ (ok : SourceGraph (s .registers) (s .nodes) (s .entry) (s .graph))
-    (short : (n : ℕ) → n < s .nodes → (edges : ℕ) × (edges ≤ s .nodes) × PathIn (s .graph) (s .entry) edges n) where
+      (short : (n : ℕ) → n < s .nodes → (edges : ℕ) × (edges ≤ s .nodes) × PathIn (s .graph) (s .entry) edges n) where
     -- a node that is no leader has the signature of the node before it
     pub same-sign : (m n : ℕ) (action : Action) → s .graph m ≡ go action n → m < s .nodes → isLeader s n ≡ false → sign s n ≡ sign s m
     unfolding isLeader sign

@@ -154,7 +154,7 @@ go-edge stop plain mem = absurd (List·Memᴰ·not-nil mem)
 
 -- what is used of one: its nodes are in order, and each is reached by a path with no more edges than there are nodes
 module _ (registers nodes entry : ℕ) (graph : ℕ → Node) (ok : SourceGraph registers nodes entry graph)
-  (short : (n : ℕ) → n < nodes → (edges : ℕ) × (edges ≤ nodes) × PathIn graph entry edges n) where
+    (short : (n : ℕ) → n < nodes → (edges : ℕ) × (edges ≤ nodes) × PathIn graph entry edges n) where
   targets-in : (m n : ℕ) → m < nodes → List·Memᴰ n (targets (graph m)) → n < nodes
   targets-in m n h = targets-inside registers nodes (graph m) (ok .node-in m h) n
 

@@ -12,4 +12,5 @@ pub mod Edges
 pub mod Leaders
 pub mod Ranks
 pub mod Crossings
+pub mod Runnable
 pub mod Listing

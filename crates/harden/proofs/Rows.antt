@@ -57,6 +57,23 @@ group-row s (suc m) n j h k =
     ∙ group-row s m n j l k)
     (eq-or-lt-of-le (le-of-suc-le-suc h))
 
+-- the groups stand behind the catch, one behind another, and fill the rest
+pub group-order : (s : Source) (n m : ℕ) → n < m → groupAt s n + extra (crossing s n) (s .graph n) ≤ groupAt s m
+unfolding groupAt
+group-order s n m h = omega (arith, group-before s m n h)
+
+pub group-above : (s : Source) (n : ℕ) → s .nodes + 2 ≤ groupAt s n
+unfolding groupAt
+group-above s n = omega arith
+
+pub group-in : (s : Source) (n : ℕ) → n < s .nodes → groupAt s n + extra (crossing s n) (s .graph n) ≤ hardenedCount s
+unfolding hardenedCount
+group-in s n h = group-order s n (s .nodes) h
+
+pub source-in : (s : Source) → s .nodes + 2 ≤ hardenedCount s
+unfolding hardenedCount
+source-in s = group-above s (s .nodes)
+
 -- source nodes keep their numbers
 pub row-own : (s : Source) (n : ℕ) → n < s .nodes → rowAt s n ≡ own s n
 unfolding rowAt hardenedRows
