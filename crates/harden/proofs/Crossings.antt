@@ -1,18 +1,18 @@
 -- A crossing edge is one from a node that is no branch to a leader, even back to the head of its own block; and what blocks say of the
 -- signatures of a source with any plan.
 -- Assumes nothing.
-use Prim.Native.Nat.{ℕ, zero, suc, _+_, _≤_, _<_}
+use Prim.Native.Nat.{ℕ, _≤_, _<_}
 use native.Mathlib.Omega.{arith}
 use mathlib.Core.Path.{_≡_, refl, sym, ap, _∙_}
 use mathlib.Core.Logic.{_↔_}
-use mathlib.Core.Bool.{Bool, true, false}
+use mathlib.Core.Bool.{true, false}
 use lib.ListN.{length, getD}
 use Rattle.graph.specs.Nodes.{Node, go, branch, ret, stop, Action, Operand, targets}
 use Rattle.graph.specs.Accepted.{SourceGraph}
 use Rattle.graph.specs.Paths.{PathIn}
-use Rattle.harden.specs.Blocks.{leader, blockHead, crosses, signature}
+use Rattle.harden.specs.Blocks.{blockHead, crosses, signature}
 use Rattle.harden.specs.Hardened.{Source, isLeader, sign, crossing, isBranch}
-use Rattle.harden.specs.Edges.{Edge, Leader, branch-target, CrossingEdge, Distinct}
+use Rattle.harden.specs.Edges.{branch-target, CrossingEdge, Distinct}
 use Rattle.harden.proofs.Edges.{absurd-bool}
 use Rattle.harden.proofs.Leaders.{leader-means, inside-block, head-leads}
 use Rattle.harden.proofs.Ranks.{signature-apart}

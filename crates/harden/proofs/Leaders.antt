@@ -1,28 +1,27 @@
 -- A leader is just what its three clauses say; any other node of an accepted source has one predecessor, no branch, and lies in its
 -- block; the head of a block is a leader, and a leader heads its own.
 -- Assumes nothing.
-use Prim.Native.Nat.{ℕ, zero, suc, _+_, _≤_, _<_}
+use Prim.Native.Nat.{ℕ, zero, suc, _≤_, _<_}
 use native.Mathlib.Nat.{eq-or-lt-of-le, le-of-suc-le-suc, not-suc-le-zero}
 use native.Mathlib.Decide.{decLt}
 use native.Mathlib.Omega.{arith}
 use mathlib.Core.Path.{_≡_, refl, sym, ap, _∙_}
 use mathlib.Core.Logic.{_⊎_, inl, inr, _↔_}
 use mathlib.Core.Bool.{Bool, true, false, cond, _||_, or-true}
-use mathlib.Core.List.{List, [], _∷_, List·Memᴰ, List·Memᴰ·head, List·Memᴰ·tail, List·Memᴰ·not-nil, List·Memᴰ·eq-of-singleton}
-use lib.ListN.{length, getD}
+use mathlib.Core.List.{List, List·Memᴰ, List·Memᴰ·head, List·Memᴰ·tail, List·Memᴰ·not-nil, List·Memᴰ·eq-of-singleton}
 use lib.Dec.{eqb, ltb, leb}
-use borrow.Author.Tests.{eqb-true, eq-eqb, leb-true, le-leb, leb-false, lt-ltb, le-ltb}
+use borrow.Author.Tests.{eqb-true, eq-eqb, leb-true, le-leb, lt-ltb, le-ltb}
 use Rattle.words.specs.Answer.{given}
-use Rattle.graph.specs.Nodes.{Node, go, branch, ret, stop, Action, Operand, targets, nodeAt}
-use Rattle.graph.specs.Accepted.{NodeIn, NoCatch, SourceGraph}
+use Rattle.graph.specs.Nodes.{Node, go, branch, ret, stop, Action, targets, nodeAt}
+use Rattle.graph.specs.Accepted.{SourceGraph}
 use Rattle.graph.specs.Checks.{sourceCheck}
 use Rattle.graph.specs.Paths.{PathIn, start, onward}
 use Rattle.graph.proofs.Facts.{source-facts, path-short}
 use Rattle.graph.proofs.Reached.{targets-inside}
-use Rattle.harden.specs.Blocks.{Plan, among, edgesInto, aimsAt, branchTo, leader, predecessor, headIn, blockHead, rank, signature}
+use Rattle.harden.specs.Blocks.{among, edgesInto, branchTo, leader, predecessor, headIn, blockHead, rank, signature}
 use Rattle.harden.specs.Hardened.{isBranch}
-use Rattle.harden.specs.Edges.{Edge, TwoEdges, Leader, is-entry, branch-target, many-edges, Inside}
-use Rattle.harden.proofs.Edges.{absurd-bool, counted, edge-here, edge-counts, two-edges, two-nodes, two-counted, slot-aimed, branch-edge, edge-branch}
+use Rattle.harden.specs.Edges.{Edge, Leader, is-entry, branch-target, many-edges, Inside}
+use Rattle.harden.proofs.Edges.{absurd-bool, counted, edge-here, edge-counts, two-edges, two-counted, slot-aimed, branch-edge, edge-branch}
 
 -- ---- the three clauses
 

@@ -8,7 +8,7 @@ use mathlib.Core.Path.{_≡_, refl, sym, ap, _∙_}
 use mathlib.Core.Logic.{_⊎_, inl, inr}
 use mathlib.Core.Bool.{Bool, true, false, cond}
 use Rattle.graph.specs.Nodes.{Node}
-use Rattle.harden.specs.Blocks.{Plan, leader, blockHead, rank, onePlusRank, signature}
+use Rattle.harden.specs.Blocks.{Plan, leader, rank, onePlusRank, signature}
 use Rattle.harden.specs.Edges.{Distinct}
 use Rattle.harden.proofs.Leaders.{leader-heads}
 

@@ -3,16 +3,16 @@
 use Prim.Native.Nat.{ℕ, zero, suc, _+_, _*_, _≤_, _<_}
 use native.Mathlib.Nat.{add-zero, zero-add, eq-or-lt-of-le, le-of-suc-le-suc, not-suc-le-zero}
 use native.Mathlib.Omega.{arith}
-use mathlib.Core.Path.{_≡_, refl, sym, ap, _∙_}
+use mathlib.Core.Path.{_≡_, refl, ap, _∙_}
 use mathlib.Core.Bool.{Bool, true, false, cond}
-use mathlib.Core.Logic.{_⊎_, inl, inr, ⊎-elim}
+use mathlib.Core.Logic.{_⊎_, ⊎-elim}
 use mathlib.Core.List.{List, [], _∷_, _++_, append-assoc, append-nil}
-use lib.ListN.{length, getD, length-append, List·getD-append}
+use lib.ListN.{length, getD, List·getD-append}
 use lib.Seq.{getD-append-add, getD-at}
 use Rattle.graph.specs.Nodes.{Node, go, branch, ret, stop, Action, const, op, input, output, Operand, register, constant, nodeOf, nodeAt, wordsOf}
 use Rattle.harden.specs.Blocks.{crosses}
 use Rattle.harden.specs.Hardened.{Source, isLeader, sign, crossing, extra, prepare, update, check, groupOf, ownRow, ownAt, groupFrom, extraBelow, groupAt, sourceRows, groupRows, firstRow, hardenedRows, rowAt, hardenedCount, tableOf, hardenedTable}
-use Rattle.harden.proofs.Count.{group-length, source-rows-length, group-rows-length, rows-length, words-length, table-length}
+use Rattle.harden.proofs.Count.{source-rows-length, group-rows-length, rows-length, words-length}
 
 -- a source node's own row, and its group
 abbrev pub own : Source → ℕ → Node

@@ -3,7 +3,7 @@
 -- Assumes nothing.
 use Prim.Native.Nat.{ℕ, _<_}
 use mathlib.Core.Path.{_≡_}
-use mathlib.Core.Bool.{Bool, true, false}
+use mathlib.Core.Bool.{true, false}
 use lib.ListN.{length, getD}
 use Rattle.graph.specs.Nodes.{Node, go, Action, targets}
 use Rattle.harden.specs.Blocks.{Plan, blockHead, signature}
