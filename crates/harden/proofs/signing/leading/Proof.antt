@@ -14,7 +14,7 @@ abbrev Inv-loop : tie.InvT-loop
 Inv-loop grades nodes signatures₀ rank₀ n₀ signatures rank n =
     (n ≤ nodes)
     × (rank ≡ leadersBelow grades n)
-    × (signatures ≡ filled (asLeader grades) zeros n)
+    × (signatures ≡ filled (asLeader onePlusRank grades) zeros n)
 
 abbrev μ-loop : tie.MeasureT-loop
 μ-loop grades nodes signatures₀ rank₀ n₀ signatures rank n = nodes - n

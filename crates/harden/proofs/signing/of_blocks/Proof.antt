@@ -20,7 +20,7 @@ signatures-requires : tie.Need-signatures-requires
 signatures-requires c κs = search needs
 
 returns : tie.Need-returns
-returns c = let s = c .before .before .before .before .before .before .before .args in blocks-found _ _ _ (c .before .before .before .before .preceders .ensures) (c .before .before .before .leading .ensures) (c .signatures .ensures)
+returns c = let s = c .before .before .before .before .before .before .before .args in blocks-found _ _ _ _ (c .before .before .before .before .preceders .ensures) (c .before .before .before .leading .ensures) (c .signatures .ensures)
 
 pub of-blocks-spec : {M : Type 1} → statement M
 of-blocks-spec =

@@ -1,5 +1,4 @@
 -- `whole::group` meets its contract, by where the edges of the node lead. Assumes nothing.
-use Prim.Native.Nat.{_-_}
 use native.Mathlib.Omega.{arith}
 use denote.Ref.{now}
 use borrow.Author.Needs.{needs}

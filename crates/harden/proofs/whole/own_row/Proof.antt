@@ -1,5 +1,4 @@
 -- `whole::own_row` meets its contract: the row redirected is the node's own row. Assumes nothing.
-use Prim.Native.Nat.{_-_}
 use native.Mathlib.Omega.{arith}
 use borrow.Author.Needs.{needs}
 use Rattle.harden.proofs.Turns.{first-in, own-written}
