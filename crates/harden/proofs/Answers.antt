@@ -2,21 +2,19 @@
 -- Assumes nothing.
 use Prim.Native.Nat.{ℕ, _+_, _*_, _≤_, _<_}
 use native.Mathlib.Omega.{arith}
-use mathlib.Core.Path.{_≡_, refl, sym, ap, _∙_}
+use mathlib.Core.Path.{_≡_, _∙_}
 use mathlib.Core.List.{List}
 use lib.ListN.{length, set}
 use borrow.Author.Tests.{le-leb, lt-leb}
-use Rattle.words.specs.Answer.{Answer, given, refused, andThen, demand, written}
-use Rattle.words.specs.Buffer.{over}
+use Rattle.words.specs.Answer.{Answer, given, refused}
 use Rattle.graph.specs.Nodes.{nodeAt}
 use Rattle.graph.specs.Accepted.{SourceGraph}
-use Rattle.graph.specs.Checks.{checkOf, sourceCheck}
-use Rattle.graph.specs.declared.Check.{Check}
-use Rattle.graph.specs.declared.Check.the-variants.{Accepted, Refused}
+use Rattle.graph.specs.Checks.{sourceCheck}
 use Rattle.graph.specs.declared.Header.{Header}
 use Rattle.graph.proofs.Facts.{source-facts}
+use Rattle.harden.specs.Blocks.{onePlusRank}
 use Rattle.harden.specs.Hardened.{isLeader, sign, hardenedRows, hardenedCount, hardenedTable, sourceOf, hardenAnswer, hardenOutput}
-use Rattle.harden.specs.Passes.{zeros, leads, gradesBelow, blockSignatures, putRows, sourceIn, Led, Signed, roomAnswer, roomOutput}
+use Rattle.harden.specs.Passes.{zeros, gradesBelow, blockSignatures, putRows, sourceIn, Led, Signed, roomAnswer, roomOutput}
 use Rattle.harden.proofs.Count.{rows-length, count-bound}
 use Rattle.harden.proofs.Writes.{rows-over}
 use Rattle.harden.proofs.Graded.{graded-leaders}
@@ -36,11 +34,11 @@ module _ (header : Header) (table : List ℕ) (accepted : sourceCheck (header .r
       }
 
   pub blocks-signed : {grades signatures : List ℕ} → grades ≡ gradesBelow (nodeAt table) (set zeros (header .entry) 2) (header .nodes) →
-      signatures ≡ blockSignatures (nodeAt table) grades (header .nodes) → Signed header table signatures
+      signatures ≡ blockSignatures onePlusRank (nodeAt table) grades (header .nodes) → Signed header table signatures
   unfolding isLeader sign sourceOf
   blocks-signed {grades} p q =
       record {
-        right = λ n h. rw q (signatures-found (nodeAt table) (header .nodes) (header .entry) grades (facts .few-nodes) (omega arith) (grades-led p .right) n h);
+        right = λ n h. rw q (signatures-found (nodeAt table) (header .nodes) (header .entry) grades (facts .few-nodes) (omega arith) (grades-led p .right) onePlusRank n h);
       }
 
   pub count-in : {h : ℕ} → h ≡ hardenedCount (sourceIn header table) → h ≤ 2050

@@ -1,13 +1,12 @@
 -- H = N + 2 + 7B + 3X; a source of at most 256 nodes has H at most 2,050, and has it where all 256 are branches.
 -- Assumes nothing.
 use Prim.Native.Nat.{ℕ, zero, suc, _+_, _*_, _≤_, _<_}
-use native.Mathlib.Nat.{le-refl, le-of-suc-le}
 use native.Mathlib.Omega.{arith}
-use mathlib.Core.Path.{_≡_, refl, sym, ap, _∙_}
+use mathlib.Core.Path.{_≡_, refl}
 use mathlib.Core.Bool.{Bool, true, false, cond}
-use mathlib.Core.List.{List, [], _∷_, _++_}
+use mathlib.Core.List.{List, [], _∷_}
 use lib.ListN.{length, length-append}
-use Rattle.graph.specs.Nodes.{Node, go, branch, ret, stop, wordsOf, Action, const, op, input, output, register, constant}
+use Rattle.graph.specs.Nodes.{Node, go, branch, ret, stop, wordsOf, const, op, input, output, register, constant}
 use Rattle.harden.specs.Hardened.{Source, crossing, isLeader, extra, isBranch, branchCount, crossingCount, extraBelow, groupOf, groupAt, groupRows, sourceRows, hardenedRows, hardenedCount, hardenedTable, tableOf, sign}
 use Rattle.harden.specs.Blocks.{crosses}
 

@@ -1,14 +1,14 @@
 -- The pass over the edges finds the leaders: a node's grade is 2 just where it is a leader.
 -- Assumes nothing.
-use Prim.Native.Nat.{ℕ, zero, suc, _+_, min, _≤_, _<_}
+use Prim.Native.Nat.{ℕ, zero, suc, _+_, min, _<_}
 use native.Mathlib.Omega.{arith}
 use mathlib.Core.Path.{_≡_, refl, sym, ap, _∙_}
 use mathlib.Core.Bool.{Bool, true, false, cond, _||_}
-use mathlib.Core.List.{List, [], _∷_}
+use mathlib.Core.List.{List}
 use lib.ListN.{length, getD, set, length-set}
 use lib.Seq.{getD-set-same, getD-set-other}
 use lib.Dec.{eqb, leb}
-use borrow.Author.Tests.{eqb-true, eqb-false, eq-eqb, ne-eqb, le-leb, lt-leb, leb-true, leb-false}
+use borrow.Author.Tests.{eqb-true, eqb-false, eq-eqb, ne-eqb, leb-true, leb-false}
 use Rattle.graph.specs.Nodes.{Node, go, branch, ret, stop, targets}
 use Rattle.harden.specs.Blocks.{among, aimsAt, edgesInto, branchTo, leader}
 use Rattle.harden.specs.Passes.{zeros, leads, higher, graded, gradesBelow}

@@ -8,3 +8,9 @@ pub mod Turns
 pub mod Graded
 pub mod Signatures
 pub mod Answers
+pub mod Edges
+pub mod Leaders
+pub mod Ranks
+pub mod Crossings
+pub mod Runnable
+pub mod Listing

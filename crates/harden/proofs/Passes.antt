@@ -1,21 +1,20 @@
 -- The passes over the edges: one node more, and what a filled list holds.
 -- Assumes nothing.
 use Prim.Native.Nat.{ℕ, zero, suc, _+_, _-_, _≤_, _<_}
-use native.Mathlib.Nat.{eq-or-lt-of-le, le-of-suc-le-suc, not-suc-le-zero}
+use native.Mathlib.Nat.{not-suc-le-zero}
 use native.Mathlib.Numerals.{add-one, sub-one}
 use native.Mathlib.Omega.{arith}
-use mathlib.Core.Path.{_≡_, refl, sym, ap, _∙_}
-use mathlib.Core.Logic.{_⊎_, inl, inr, ⊎-elim}
+use mathlib.Core.Path.{_≡_, refl, ap, _∙_}
+use mathlib.Core.Logic.{⊎-elim}
 use mathlib.Core.Bool.{Bool, true, false, cond}
-use mathlib.Core.List.{List, [], _∷_}
-use lib.ListN.{length, getD, set, length-set, length-replicate, getD-replicate}
-use lib.Seq.{getD-set-same, getD-set-other}
+use mathlib.Core.List.{List}
+use lib.ListN.{length, getD, set, length-replicate, getD-replicate}
 use Rattle.graph.specs.Nodes.{Node, targets}
 use Rattle.graph.specs.Successors.{targetsOf}
 use Rattle.graph.specs.declared.Successors.{Successors}
 use Rattle.graph.specs.declared.Successors.the-variants.{None, One, Two}
 use Rattle.harden.specs.Passes.{zeros, leads, higher, graded, gradesBelow, preceded, precedersBelow, headBy, leadersBelow, filled, asLeader, asBlock, blockSignatures, firstTo}
-use Rattle.harden.specs.Blocks.{crosses}
+use Rattle.harden.specs.Blocks.{Plan, crosses}
 use Rattle.harden.specs.Hardened.{extra}
 use Rattle.harden.proofs.Successors.{no-edge, one-edge, two-edges}
 
@@ -113,8 +112,8 @@ module _ (led : ℕ → Bool) (node : Node) {r : Successors} (read : targetsOf r
   first-two e known = rw (two-edges node read known .is)
 
 -- the three passes of the signatures
-pub blocks-found : (graph : ℕ → Node) (grades : List ℕ) (nodes : ℕ) {preceders leading signatures : List ℕ} →
-    preceders ≡ precedersBelow graph zeros nodes → leading ≡ filled (asLeader grades) zeros nodes →
-    signatures ≡ filled (asBlock grades preceders leading nodes) zeros nodes → signatures ≡ blockSignatures graph grades nodes
+pub blocks-found : (plan : Plan) (graph : ℕ → Node) (grades : List ℕ) (nodes : ℕ) {preceders leading signatures : List ℕ} →
+    preceders ≡ precedersBelow graph zeros nodes → leading ≡ filled (asLeader plan grades) zeros nodes →
+    signatures ≡ filled (asBlock grades preceders leading nodes) zeros nodes → signatures ≡ blockSignatures plan graph grades nodes
 unfolding blockSignatures
-blocks-found graph grades nodes p q r = r ∙ rw (p, q)
+blocks-found plan graph grades nodes p q r = r ∙ rw (p, q)

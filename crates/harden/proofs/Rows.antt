@@ -3,16 +3,16 @@
 use Prim.Native.Nat.{ℕ, zero, suc, _+_, _*_, _≤_, _<_}
 use native.Mathlib.Nat.{add-zero, zero-add, eq-or-lt-of-le, le-of-suc-le-suc, not-suc-le-zero}
 use native.Mathlib.Omega.{arith}
-use mathlib.Core.Path.{_≡_, refl, sym, ap, _∙_}
+use mathlib.Core.Path.{_≡_, refl, ap, _∙_}
 use mathlib.Core.Bool.{Bool, true, false, cond}
-use mathlib.Core.Logic.{_⊎_, inl, inr, ⊎-elim}
+use mathlib.Core.Logic.{⊎-elim}
 use mathlib.Core.List.{List, [], _∷_, _++_, append-assoc, append-nil}
-use lib.ListN.{length, getD, length-append, List·getD-append}
+use lib.ListN.{length, getD, List·getD-append}
 use lib.Seq.{getD-append-add, getD-at}
 use Rattle.graph.specs.Nodes.{Node, go, branch, ret, stop, Action, const, op, input, output, Operand, register, constant, nodeOf, nodeAt, wordsOf}
 use Rattle.harden.specs.Blocks.{crosses}
 use Rattle.harden.specs.Hardened.{Source, isLeader, sign, crossing, extra, prepare, update, check, groupOf, ownRow, ownAt, groupFrom, extraBelow, groupAt, sourceRows, groupRows, firstRow, hardenedRows, rowAt, hardenedCount, tableOf, hardenedTable}
-use Rattle.harden.proofs.Count.{group-length, source-rows-length, group-rows-length, rows-length, words-length, table-length}
+use Rattle.harden.proofs.Count.{source-rows-length, group-rows-length, rows-length, words-length}
 
 -- a source node's own row, and its group
 abbrev pub own : Source → ℕ → Node
@@ -56,6 +56,23 @@ group-row s (suc m) n j h k =
     (omega (arith, group-before s m n l))
     ∙ group-row s m n j l k)
     (eq-or-lt-of-le (le-of-suc-le-suc h))
+
+-- the groups stand behind the catch, one behind another, and fill the rest
+pub group-order : (s : Source) (n m : ℕ) → n < m → groupAt s n + extra (crossing s n) (s .graph n) ≤ groupAt s m
+unfolding groupAt
+group-order s n m h = omega (arith, group-before s m n h)
+
+pub group-above : (s : Source) (n : ℕ) → s .nodes + 2 ≤ groupAt s n
+unfolding groupAt
+group-above s n = omega arith
+
+pub group-in : (s : Source) (n : ℕ) → n < s .nodes → groupAt s n + extra (crossing s n) (s .graph n) ≤ hardenedCount s
+unfolding hardenedCount
+group-in s n h = group-order s n (s .nodes) h
+
+pub source-in : (s : Source) → s .nodes + 2 ≤ hardenedCount s
+unfolding hardenedCount
+source-in s = group-above s (s .nodes)
 
 -- source nodes keep their numbers
 pub row-own : (s : Source) (n : ℕ) → n < s .nodes → rowAt s n ≡ own s n

@@ -3,15 +3,15 @@
 use Prim.Native.Nat.{ℕ, zero, suc, _+_, _≤_, _<_}
 use native.Mathlib.Nat.{eq-or-lt-of-le, le-of-suc-le-suc, not-suc-le-zero}
 use native.Mathlib.Omega.{arith}
-use mathlib.Core.Path.{_≡_, refl, sym, ap, _∙_}
+use mathlib.Core.Path.{_≡_, refl, ap, _∙_}
 use mathlib.Core.Logic.{⊎-elim}
 use mathlib.Core.Bool.{Bool, true, false, cond}
-use mathlib.Core.List.{List, [], _∷_}
+use mathlib.Core.List.{List}
 use lib.ListN.{length, getD, set, length-set}
 use lib.Seq.{getD-set-same, getD-set-other}
 use lib.Dec.{eqb, ltb}
 use Rattle.graph.specs.Nodes.{Node, go, branch, ret, stop, targets}
-use Rattle.harden.specs.Blocks.{among, leader, predecessor, headIn, blockHead, rank, onePlusRank, signature}
+use Rattle.harden.specs.Blocks.{among, leader, predecessor, headIn, blockHead, rank, Plan, signature}
 use Rattle.harden.specs.Passes.{zeros, leads, preceded, precedersBelow, headBy, leadersBelow, filled, asLeader, asBlock, signed, blockSignatures}
 use Rattle.harden.proofs.Passes.{zeros-length, zeros-at}
 use Rattle.harden.proofs.Graded.{stored-there, stored-elsewhere}
@@ -105,13 +105,13 @@ module _ (graph : ℕ → Node) (nodes entry : ℕ) (grades : List ℕ) (few : n
       by false further = further
 
   -- the signatures that the passes find
-  pub signatures-found : (n : ℕ) → n < nodes →
-      signed (blockSignatures graph grades nodes) n ≡ signature onePlusRank graph nodes entry n
+  pub signatures-found : (plan : Plan) (n : ℕ) → n < nodes →
+      signed (blockSignatures plan graph grades nodes) n ≡ signature plan graph nodes entry n
   unfolding blockSignatures signature blockHead
-  signatures-found n h =
+  signatures-found plan n h =
       let head = headIn graph nodes entry nodes n in
       let low : head < nodes = head-in nodes n h in
-      filled-at (asBlock grades (precedersBelow graph zeros nodes) (filled (asLeader grades) zeros nodes) nodes) zeros nodes n (rw zeros-length few) h
-      ∙ ap (λ (k : ℕ). getD (filled (asLeader grades) zeros nodes) k 0) (heads nodes n h)
-      ∙ filled-at (asLeader grades) zeros nodes head (rw zeros-length few) low
-      ∙ ap onePlusRank (ranks head (omega arith))
+      filled-at (asBlock grades (precedersBelow graph zeros nodes) (filled (asLeader plan grades) zeros nodes) nodes) zeros nodes n (rw zeros-length few) h
+      ∙ ap (λ (k : ℕ). getD (filled (asLeader plan grades) zeros nodes) k 0) (heads nodes n h)
+      ∙ filled-at (asLeader plan grades) zeros nodes head (rw zeros-length few) low
+      ∙ ap plan (ranks head (omega arith))

@@ -2,9 +2,9 @@
 -- Assumes nothing.
 use Prim.Native.Nat.{ℕ}
 use native.Mathlib.Omega.{arith}
-use mathlib.Core.Path.{_≡_, refl, sym, ap, _∙_}
+use mathlib.Core.Path.{_≡_, refl}
 use mathlib.Core.Logic.{_⊎_, inl, inr}
-use mathlib.Core.List.{List, [], _∷_}
+use mathlib.Core.List.{[], _∷_}
 use Rattle.graph.specs.Nodes.{Node, go, branch, ret, stop, Action, Operand, targets}
 use Rattle.graph.specs.Successors.{targetsOf}
 use Rattle.graph.specs.declared.Successors.{Successors}

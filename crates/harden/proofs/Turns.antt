@@ -1,14 +1,14 @@
 -- One turn of each pass over an accepted source's nodes: one extra sum, one row, one group more.
 -- Assumes nothing.
-use Prim.Native.Nat.{ℕ, zero, suc, _+_, _*_, _≤_, _<_}
-use native.Mathlib.Nat.{add-assoc, zero-add}
+use Prim.Native.Nat.{ℕ, _+_, _≤_, _<_}
+use native.Mathlib.Nat.{add-assoc}
 use native.Mathlib.Numerals.{add-one}
 use native.Mathlib.Omega.{arith}
 use mathlib.Core.Path.{_≡_, refl, sym, ap, _∙_}
-use mathlib.Core.Logic.{_⊎_, inl, inr, ⊎-elim}
-use mathlib.Core.Bool.{Bool, true, false, cond}
+use mathlib.Core.Logic.{⊎-elim}
+use mathlib.Core.Bool.{Bool, true, false}
 use mathlib.Core.List.{List, [], _∷_, _++_, append-assoc}
-use lib.ListN.{length, getD, set, length-append}
+use lib.ListN.{length-append}
 use Rattle.graph.specs.Nodes.{Node, go, branch, ret, stop, Operand, const, targets, nodeAt}
 use Rattle.graph.specs.Accepted.{NodeIn}
 use Rattle.graph.specs.Successors.{targetsOf}
@@ -16,8 +16,8 @@ use Rattle.graph.specs.declared.Header.{Header}
 use Rattle.graph.specs.declared.Successors.{Successors}
 use Rattle.graph.specs.declared.Successors.the-variants.{None, One, Two}
 use Rattle.harden.specs.Blocks.{crosses}
-use Rattle.harden.specs.Hardened.{Source, isLeader, sign, crossing, extra, prepare, update, check, branchGroup, crossingGroup, groupOf, ownRow, ownAt, groupFrom, extraBelow, groupAt, sourceRows, groupRows, firstRow, hardenedRows, hardenedCount, sourceOf}
-use Rattle.harden.specs.Passes.{leads, signed, aimed, arrival, branching, firstTo, putRows, sourceIn, Led, Signed}
+use Rattle.harden.specs.Hardened.{isLeader, sign, crossing, extra, branchGroup, crossingGroup, ownRow, ownAt, groupFrom, extraBelow, groupAt, sourceRows, groupRows, firstRow, hardenedRows, sourceOf}
+use Rattle.harden.specs.Passes.{leads, signed, aimed, branching, firstTo, putRows, sourceIn, Led, Signed}
 use Rattle.harden.proofs.Count.{at-most-seven, group-bound, source-rows-length, group-rows-length}
 use Rattle.harden.proofs.Successors.{no-edge, one-edge, two-edges}
 use Rattle.harden.proofs.Writes.{more-rows, no-rows}

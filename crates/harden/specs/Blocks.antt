@@ -2,7 +2,7 @@
 -- which is its nodes by number, how many they are, and the entry.
 -- Assumes nothing.
 use Prim.Native.Nat.{ℕ, zero, suc, _+_}
-use mathlib.Core.Bool.{Bool, true, false, cond, _||_}
+use mathlib.Core.Bool.{Bool, false, cond, _||_}
 use mathlib.Core.List.{List, [], _∷_}
 use lib.Dec.{eqb, ltb, leb}
 use Rattle.graph.specs.Nodes.{Node, go, branch, ret, stop, targets}

@@ -1,3 +1,4 @@
 pub mod Blocks
 pub mod Hardened
+pub mod Edges
 pub mod Passes

@@ -2,7 +2,7 @@
 -- Assumes nothing.
 use Prim.Native.Nat.{ℕ, zero, suc, _+_, _*_, _<_}
 use mathlib.Core.Path.{_≡_}
-use mathlib.Core.Bool.{Bool, true, false, cond}
+use mathlib.Core.Bool.{Bool, cond}
 use mathlib.Core.List.{List, [], _∷_, _++_}
 use lib.ListN.{length, getD, set, replicate}
 use lib.Dec.{eqb, leb}
@@ -10,7 +10,7 @@ use Rattle.words.specs.Answer.{Answer, given, demand, written}
 use Rattle.words.specs.Buffer.{put, over}
 use Rattle.graph.specs.Nodes.{Node, go, branch, ret, stop, nodeAt}
 use Rattle.graph.specs.Accepted.{SourceGraph}
-use Rattle.harden.specs.Blocks.{onePlusRank}
+use Rattle.harden.specs.Blocks.{Plan}
 use Rattle.harden.specs.Hardened.{tableOf, prepare, update, check, Source, isLeader, sign, sourceOf, hardenedCount, hardenedTable}
 use Rattle.graph.specs.declared.Header.{Header}
 
@@ -66,16 +66,16 @@ filled f l zero = l
 filled f l (suc n) = set (filled f l n) n (f n)
 
 -- the signature that a node has as a leader, and that of its block
-abbrev pub asLeader : List ℕ → ℕ → ℕ
-asLeader grades n = onePlusRank (leadersBelow grades n)
+abbrev pub asLeader : Plan → List ℕ → ℕ → ℕ
+asLeader plan grades n = plan (leadersBelow grades n)
 
 abbrev pub asBlock : List ℕ → List ℕ → List ℕ → ℕ → ℕ → ℕ
 asBlock grades preceders leaders nodes n = getD leaders (headBy grades preceders nodes n) 0
 
 -- the signatures of all blocks, from the grades
-unfoldable pub blockSignatures : (ℕ → Node) → List ℕ → ℕ → List ℕ
-blockSignatures graph grades nodes =
-    filled (asBlock grades (precedersBelow graph zeros nodes) (filled (asLeader grades) zeros nodes) nodes) zeros nodes
+unfoldable pub blockSignatures : Plan → (ℕ → Node) → List ℕ → ℕ → List ℕ
+blockSignatures plan graph grades nodes =
+    filled (asBlock grades (precedersBelow graph zeros nodes) (filled (asLeader plan grades) zeros nodes) nodes) zeros nodes
 
 -- the buffer with rows from row n upward
 unfoldable pub putRows : List ℕ → ℕ → List Node → List ℕ

@@ -78,7 +78,7 @@ fn next_rank(grades: &[u32], n: usize, rank: usize) -> usize
 // The signature that each node has as a leader.
 fn leading(grades: &[u32], nodes: usize) -> [u32; 256]
     requires { ⌜ nodes ≤ 256 ⌝ }
-    ensures { λ r. ⌜ r ≡ filled (asLeader (now (grades .entry))) zeros nodes ⌝ }
+    ensures { λ r. ⌜ r ≡ filled (asLeader onePlusRank (now (grades .entry))) zeros nodes ⌝ }
 {
     let mut signatures = grading::zeros();
     let mut rank = 0;
@@ -108,7 +108,7 @@ fn signatures(grades: &[u32], preceders: &[u32], leading: &[u32], nodes: usize) 
 // The signatures of all blocks, from the grades.
 pub fn of_blocks(table: &[u32], grades: &[u32], nodes: usize) -> [u32; 256]
     requires { ⌜ nodes ≤ 256 ⌝ }
-    ensures { λ r. ⌜ r ≡ blockSignatures (nodeAt (now (table .entry))) (now (grades .entry)) nodes ⌝ }
+    ensures { λ r. ⌜ r ≡ blockSignatures onePlusRank (nodeAt (now (table .entry))) (now (grades .entry)) nodes ⌝ }
 {
     let preceders = preceders(table, nodes);
     let leading = leading(grades, nodes);

@@ -1,14 +1,11 @@
+-- `grading::higher` meets its contract: the test decides. Assumes nothing.
 use borrow.Author.Tests.{eq-eqb, ne-eqb}
-use Rattle.harden.proofs.grading.higher.Statement.{statement}
 use Rattle.harden.proofs.grading.higher.Tie as tie
-use Rattle.harden.proofs.grading.higher.Reads as reads
-use Rattle.harden.proofs.grading.higher.Lts as lts
+use Rattle.harden.proofs.grading.higher.Statement.{statement}
 
--- src/leaders.rt:23:1
 returns : tie.Need-returns
 returns c = rw (eq-eqb _ 0 (c .if1 .taken))
 
--- src/leaders.rt:23:1
 returns-2 : tie.Need-returns-2
 returns-2 c = rw (ne-eqb _ 0 (c .if1 .left))
 

@@ -1,18 +1,14 @@
-use lib.Dec.{eqb}
+-- `grading::leads` meets its contract: the grade read is the one in the list. Assumes nothing.
 use Prim.Native.Nat.{ℕ}
 use mathlib.Core.Path.{ap}
+use lib.Dec.{eqb}
 use borrow.Author.Needs.{needs}
-use Rattle.harden.proofs.grading.leads.Statement.{statement}
 use Rattle.harden.proofs.grading.leads.Tie as tie
-use Rattle.harden.proofs.grading.leads.Reads as reads
-use Rattle.harden.proofs.grading.leads.Lts as lts
-use Rattle.words.proofs.word.Reads as word-reads
+use Rattle.harden.proofs.grading.leads.Statement.{statement}
 
--- src/leaders.rt:20:5
 word-requires : tie.Need-word-requires
 word-requires c κs = search needs
 
--- src/leaders.rt:17:1
 returns : tie.Need-returns
 returns c = ap (λ (w : ℕ). eqb w 2) (c .word .ensures)
 

@@ -1,24 +1,18 @@
+-- `signing::next_rank` meets its contract: the grade decides. Assumes nothing.
 use native.Mathlib.Omega.{arith}
 use borrow.Author.Needs.{needs}
-use Rattle.harden.proofs.signing.next_rank.Statement.{statement}
 use Rattle.harden.proofs.signing.next_rank.Tie as tie
-use Rattle.harden.proofs.signing.next_rank.Reads as reads
-use Rattle.harden.proofs.signing.next_rank.Lts as lts
-use Rattle.harden.proofs.grading.leads.Reads as leads-reads
+use Rattle.harden.proofs.signing.next_rank.Statement.{statement}
 
--- src/blocks.rt:71:8
 leads-requires : tie.Need-leads-requires
 leads-requires c κs = search needs
 
--- src/blocks.rt:71:36
 add-result : tie.Need-add-result
 add-result c = search needs
 
--- src/blocks.rt:67:1
 returns : tie.Need-returns
 returns c = rw (← c .before .leads .ensures, c .if1 .taken)
 
--- src/blocks.rt:67:1
 returns-2 : tie.Need-returns-2
 returns-2 c = rw (← c .before .leads .ensures, c .if1 .left) (omega arith)
 

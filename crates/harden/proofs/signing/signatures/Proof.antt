@@ -1,19 +1,14 @@
-use denote.Ref.{now}
-use lib.ListN.{length-set, getD}
-use Rattle.harden.proofs.Passes.{zeros-length, filled-more}
-use Rattle.harden.specs.Passes.{zeros, filled, asBlock}
-use native.Mathlib.Omega.{arith}
-use lib.ListN.{length, set}
-use borrow.Author.Needs.{needs}
-use mathlib.Core.Path.{_≡_, sym, ap, _∙_}
+-- `signing::signatures` meets its contract. The invariant: the list is filled so far. The measure is what is left of the nodes. Assumes nothing.
 use Prim.Native.Nat.{ℕ, _≤_, _-_}
-use Rattle.harden.proofs.signing.signatures.Statement.{statement}
+use native.Mathlib.Omega.{arith}
+use mathlib.Core.Path.{_≡_, ap, _∙_}
+use lib.ListN.{getD}
+use denote.Ref.{now}
+use borrow.Author.Needs.{needs}
+use Rattle.harden.specs.Passes.{zeros, filled, asBlock}
+use Rattle.harden.proofs.Passes.{filled-more}
 use Rattle.harden.proofs.signing.signatures.Tie as tie
-use Rattle.harden.proofs.signing.signatures.Reads as reads
-use Rattle.harden.proofs.signing.signatures.Lts as lts
-use Rattle.harden.proofs.signing.head.Reads as head-reads
-use Rattle.harden.proofs.grading.zeros.Reads as zeros-reads
-use Rattle.words.proofs.word.Reads as word-reads
+use Rattle.harden.proofs.signing.signatures.Statement.{statement}
 
 abbrev Inv-loop : tie.InvT-loop
 Inv-loop grades preceders leading nodes signatures₀ n₀ signatures n =
@@ -23,44 +18,34 @@ Inv-loop grades preceders leading nodes signatures₀ n₀ signatures n =
 abbrev μ-loop : tie.MeasureT-loop
 μ-loop grades preceders leading nodes signatures₀ n₀ signatures n = nodes - n
 
--- src/blocks.rt:96:26
 zeros-requires : tie.Need-zeros-requires Inv-loop μ-loop
 zeros-requires c κs = search needs
 
--- src/blocks.rt:98:5
 loop-holds : tie.Need-loop-holds Inv-loop μ-loop
 unfolding filled
 loop-holds c = (search needs, c .zeros .ensures)
 
--- src/blocks.rt:99:46
 head-requires : tie.Need-head-requires Inv-loop μ-loop
 head-requires c κs = search needs
 
--- src/blocks.rt:99:25
 word-requires : tie.Need-word-requires Inv-loop μ-loop
 word-requires c κs = search needs
 
--- src/blocks.rt:99:9
 mul-signatures : tie.Need-mul-signatures Inv-loop μ-loop
 mul-signatures c = search needs
 
--- src/blocks.rt:99:9
 array-write-signatures : tie.Need-array-write-signatures Inv-loop μ-loop
 array-write-signatures c = search needs
 
--- src/blocks.rt:100:9
 add-n : tie.Need-add-n Inv-loop μ-loop
 add-n c = search needs
 
--- src/blocks.rt:98:5
 loop-less : tie.Need-loop-less Inv-loop μ-loop
 loop-less c = search needs
 
--- src/blocks.rt:98:5
 loop-again : tie.Need-loop-again Inv-loop μ-loop
 loop-again c = (search needs, filled-more _ _ _ (c .before .before .before .loop .inv .1) (c .word .ensures ∙ ap (λ (h : ℕ). getD (now (c .before .before .before .before .before .before .before .before .args .leading)) h 0) (c .before .head .ensures)))
 
--- src/blocks.rt:92:1
 returns : tie.Need-returns Inv-loop μ-loop
 returns c = let e : c .before .loop .n ≡ c .before .before .before .before .before .before .args .nodes = omega arith in rw e at (c .before .loop .inv .1)
 

@@ -1,18 +1,15 @@
-use Rattle.harden.proofs.Turns.{extra-small, group-start, group-next, group-in, groups-start, groups-next}
+-- `whole::all_groups` meets its contract. The invariant: the groups of the nodes passed are written, and e is the first extra node of the next. The measure is what is left of the nodes. Assumes nothing.
+use Prim.Native.Nat.{_+_, _≤_, _-_}
+use native.Mathlib.Omega.{arith}
+use mathlib.Core.Path.{_≡_, refl, _∙_}
+use lib.ListN.{length}
+use denote.Ref.{now}
+use borrow.Author.Needs.{needs}
 use Rattle.harden.specs.Hardened.{groupAt, groupRows}
 use Rattle.harden.specs.Passes.{sourceIn, putRows}
-use denote.Ref.{now}
-use native.Mathlib.Omega.{arith}
-use lib.ListN.{length, set}
-use borrow.Author.Needs.{needs}
-use mathlib.Core.Path.{_≡_, refl, sym, ap, _∙_}
-use Prim.Native.Nat.{ℕ, _+_, _≤_, _<_, _-_}
-use Rattle.harden.proofs.whole.all_groups.Statement.{statement}
+use Rattle.harden.proofs.Turns.{extra-small, group-start, group-next, group-in, groups-start, groups-next}
 use Rattle.harden.proofs.whole.all_groups.Tie as tie
-use Rattle.harden.proofs.whole.all_groups.Reads as reads
-use Rattle.harden.proofs.whole.all_groups.Lts as lts
-use Rattle.harden.proofs.whole.extra.Reads as extra-reads
-use Rattle.harden.proofs.whole.group.Reads as group-reads
+use Rattle.harden.proofs.whole.all_groups.Statement.{statement}
 
 abbrev Inv-loop : tie.InvT-loop
 Inv-loop out₀ source table grades signatures nodes e₀ n₀ out e n =
@@ -24,43 +21,33 @@ Inv-loop out₀ source table grades signatures nodes e₀ n₀ out e n =
 abbrev μ-loop : tie.MeasureT-loop
 μ-loop out₀ source table grades signatures nodes e₀ n₀ out e n = source .nodes - n
 
--- src/whole.rt:100:17
 add-e : tie.Need-add-e Inv-loop μ-loop
 add-e c = search needs
 
--- src/whole.rt:102:5
 loop-holds : tie.Need-loop-holds Inv-loop μ-loop
 loop-holds c = let s = c .before .before .before .before in (omega arith, group-start _ _ _ (s .pre .0), groups-start _ _ _ (s .pre .0) _, refl)
 
--- src/whole.rt:103:9
 group-requires : tie.Need-group-requires Inv-loop μ-loop
 group-requires c κs = let s = c .before .before .before .before .before .before .before in let small = group-in _ _ _ (s .pre .0) _ (c .before .before .loop .inv .0) (c .before .before .loop .inv .1) in (s .pre .0, (s .pre .1, (search needs, omega arith)))
 
--- src/whole.rt:104:14
 extra-requires : tie.Need-extra-requires Inv-loop μ-loop
 extra-requires c κs = search needs
 
--- src/whole.rt:104:9
 add-e-2 : tie.Need-add-e-2 Inv-loop μ-loop
 add-e-2 c = let s = c .before .before .before .before .before .before .before .before .before .before .before in let small = group-in _ _ _ (s .pre .0) _ (c .before .before .before .before .before .before .loop .inv .0) (c .before .before .before .before .before .before .loop .inv .1) in omega (arith, extra-small (now (s .args .table)) (now (s .args .grades)) (c .before .before .before .before .before .before .loop .n) (c .extra .ensures))
 
--- src/whole.rt:105:9
 add-n : tie.Need-add-n Inv-loop μ-loop
 add-n c = search needs
 
--- src/whole.rt:102:5
 loop-less : tie.Need-loop-less Inv-loop μ-loop
 loop-less c = search needs
 
--- src/whole.rt:102:5
 loop-again : tie.Need-loop-again Inv-loop μ-loop
 loop-again c = let s = c .before .before .before .before .before .before .before .before .before .before .before in (omega arith, group-next _ _ _ (s .pre .0) _ (c .before .before .before .before .before .loop-test .taken) (c .before .before .before .before .before .before .loop .inv .1) (c .extra .ensures), groups-next _ _ _ (s .pre .0) _ _ (c .before .before .before .before .before .before .loop .inv .1) (c .before .before .before .before .before .before .loop .inv .2) (c .before .before .before .group .ensures), c .before .before .before .group .kept .0 ∙ c .before .before .before .before .before .before .loop .inv .3)
 
--- src/whole.rt:95:1
 same-length : tie.Need-same-length Inv-loop μ-loop
 same-length c = search needs
 
--- src/whole.rt:95:1
 returns : tie.Need-returns Inv-loop μ-loop
 returns c = let e : c .before .loop .n ≡ c .before .before .before .before .before .before .args .source .nodes = omega arith in rw e at (c .before .loop .inv .2)
 
