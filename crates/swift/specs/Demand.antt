@@ -1,0 +1,127 @@
+-- Demand 3: for every accepted source and input, the undisturbed hardened run stands after 1 + s + 4b + 3x steps as the
+-- source after s; and one inverted branch is caught within five further steps, or, at a doubled test whose two targets are
+-- one node, has changed nothing two steps later. Here is what each of these words means; proofs/ has the theorems.
+-- Assumes nothing.
+use Prim.Native.Nat.{ℕ, zero, suc, _+_, _*_, _<_}
+use mathlib.Core.Path.{_≡_}
+use mathlib.Core.Bool.{Bool, true, false, cond, _&&_}
+use mathlib.Core.List.{List, _++_}
+use lib.ListN.{take}
+use lib.Dec.{ltb}
+use Rattle.graph.specs.Nodes.{Node, go, branch, ret, stop, Operand, nodeAt}
+use Rattle.harden.specs.Hardened.{Source, crossing, groupAt, hardenedTable}
+use Rattle.bench.specs.Steps.{Machine, Setting, Status, going, ended, Progress}
+use Rattle.bench.specs.Runs.{runOf}
+use Rattle.bench.specs.declared.Fault.{Fault}
+use Rattle.bench.specs.declared.Fault.the-variants.{Undisturbed, Inverted}
+use Rattle.bench.specs.declared.Outcome.{Outcome}
+use Rattle.bench.specs.declared.Outcome.the-variants.{Returned, Caught, Spent, Full}
+
+-- a source, whatever words stand behind its hardened table, the input words, and the event room
+pub record Trial : Type 0 where
+  pub source : Source
+  pub behind : List ℕ
+  pub inputs : List ℕ
+  pub room : ℕ
+
+-- the source, and its hardened table, to be run
+abbrev pub plain : Trial → Setting
+plain t = record { graph = t .source .graph; inputs = t .inputs; room = t .room }
+
+unfoldable pub hardenedGraph : Trial → ℕ → Node
+hardenedGraph t n = nodeAt (hardenedTable (t .source) ++ t .behind) n
+
+abbrev pub hardened : Trial → Setting
+hardened t = record { graph = hardenedGraph t; inputs = t .inputs; room = t .room }
+
+-- the runs after so many rounds: a round is a step, until the run has ended
+unfoldable pub sourceRun : Trial → ℕ → Progress
+sourceRun t rounds = runOf (plain t) Undisturbed (t .source .entry) rounds
+
+unfoldable pub hardenedRun : Trial → Fault → ℕ → Progress
+hardenedRun t fault rounds = runOf (hardened t) fault (t .source .nodes) rounds
+
+-- the crossing jumps among the source's first rounds: steps from a node whose edge crosses
+unfoldable pub crossings : Trial → ℕ → ℕ
+crossings t zero = 0
+crossings t (suc rounds) =
+    let now = sourceRun t rounds .machine in
+    let then = sourceRun t (suc rounds) .machine in
+    crossings t rounds + cond (crossing (t .source) (now .node) && ltb (now .steps) (then .steps)) 1 0
+
+-- after s source steps with b branches and x crossing jumps
+abbrev pub when : ℕ → ℕ → ℕ → ℕ
+when s b x = 1 + s + 4 * b + 3 * x
+
+-- the steps of the hardened run that answer to the source's first rounds
+unfoldable pub hardenedSteps : Trial → ℕ → ℕ
+hardenedSteps t rounds =
+    let m = sourceRun t rounds .machine in
+    when (m .steps) (m .branches) (crossings t rounds)
+
+-- what stops a run before a step is seen in one round more, which is no step
+abbrev pub stopping : Status → ℕ
+stopping going = 0
+stopping (ended (Returned value)) = 0
+stopping (ended Caught) = 0
+stopping (ended Spent) = 0
+stopping (ended Full) = 1
+
+-- the undisturbed hardened run beside the source's first rounds
+unfoldable pub beside : Trial → ℕ → Progress
+beside t rounds = hardenedRun t Undisturbed (hardenedSteps t rounds + stopping (sourceRun t rounds .status))
+
+-- the same node, source registers, reads and events
+pub record Agree (registers : ℕ) (m σ : Machine) : Type 0 where
+  pub same-node : m .node ≡ σ .node
+  pub same-registers : take registers (m .registers) ≡ take registers (σ .registers)
+  pub same-reads : m .reads ≡ σ .reads
+  pub same-events : m .events ≡ σ .events
+
+-- the first half of demand 3: so many steps, the same state, and ended alike if the source has, else not at all
+pub record Follows (t : Trial) (rounds : ℕ) : Type 0 where
+  pub steps : beside t rounds .machine .steps ≡ hardenedSteps t rounds
+  pub agree : Agree (t .source .registers) (beside t rounds .machine) (sourceRun t rounds .machine)
+  pub alike : beside t rounds .status ≡ sourceRun t rounds .status
+
+abbrev pub isBranch : Node → Bool
+isBranch (branch c a b then else) = true
+isBranch (go action next) = false
+isBranch (ret a) = false
+isBranch stop = false
+
+-- the undisturbed hardened run executes a branch, and its place among the branches executed is this
+pub record Executes (t : Trial) (place rounds : ℕ) : Type 0 where
+  pub under-way : hardenedRun t Undisturbed rounds .status ≡ going
+  pub at-branch : isBranch (hardenedGraph t (hardenedRun t Undisturbed rounds .machine .node)) ≡ true
+  pub this-place : hardenedRun t Undisturbed rounds .machine .branches ≡ place
+
+-- the further steps within which an inverted branch is caught
+abbrev pub soon : ℕ
+soon = 5
+
+-- caught within five steps after the inverted one, and no read or event in between
+pub record CaughtSoon (t : Trial) (place rounds : ℕ) : Type 0 where
+  pub is-caught : hardenedRun t (Inverted place) (rounds + 1 + soon) .status ≡ ended Caught
+  pub no-read : hardenedRun t (Inverted place) (rounds + 1 + soon) .machine .reads ≡ hardenedRun t Undisturbed rounds .machine .reads
+  pub no-event : hardenedRun t (Inverted place) (rounds + 1 + soon) .machine .events ≡ hardenedRun t Undisturbed rounds .machine .events
+
+-- two steps after the inverted one, and ever after, exactly the undisturbed run
+abbrev pub Unchanged : Trial → ℕ → ℕ → Type 0
+Unchanged t place rounds = (more : ℕ) → hardenedRun t (Inverted place) (rounds + 1 + 2 + more) ≡ hardenedRun t Undisturbed (rounds + 1 + 2 + more)
+
+-- the two nodes of the hardened graph that make a source branch's test
+pub data TestOf (s : Source) (n : ℕ) : ℕ → Type 0 where
+  first : TestOf s n n
+  again : TestOf s n (groupAt s n + 2)
+
+-- a node of the hardened graph that makes a doubled test whose two targets are one node
+pub record OneTarget (s : Source) (i : ℕ) : Type 0 where
+  pub node : ℕ
+  pub inside : node < s .nodes
+  pub test : TestOf s node i
+  pub comparison : ℕ
+  pub left : ℕ
+  pub right : Operand
+  pub target : ℕ
+  pub is-branch : s .graph node ≡ branch comparison left right target target
