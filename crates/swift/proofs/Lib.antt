@@ -1,0 +1,3 @@
+-- Demand 3 and what follows from it for the score.
+pub mod Xor
+pub mod Rows
