@@ -1,3 +1,4 @@
 -- Demand 3 and what follows from it for the score.
 pub mod Xor
 pub mod Rows
+pub mod Blocks
