@@ -2,3 +2,4 @@
 pub mod Xor
 pub mod Rows
 pub mod Blocks
+pub mod Rounds
