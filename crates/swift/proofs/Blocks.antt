@@ -16,12 +16,9 @@ use lib.Dec.{eqb, ltb, leb}
 use borrow.Author.Tests.{eqb-true, eqb-false, eq-eqb, lt-ltb, le-ltb, leb-false, ltb-true, ltb-false}
 use Rattle.graph.specs.Nodes.{Node, go, branch, ret, stop, Action, Operand, targets}
 use Rattle.graph.specs.Paths.{Marks, marked, markAll, followed, reachedIn, reached}
-use Rattle.harden.specs.Blocks.{Plan, among, edgesInto, aimsAt, branchTo, leader, predecessor, headIn, blockHead, rank, signature}
+use Rattle.harden.specs.Blocks.{among, edgesInto, aimsAt, branchTo, leader, predecessor, headIn, blockHead, rank, signature}
 use Rattle.harden.specs.Hardened.{Source, isLeader, sign}
-
--- the plan gives no word to two ranks
-abbrev pub Distinct : Plan → Type 0
-Distinct plan = (a b : ℕ) → a < 256 → b < 256 → plan a ≡ plan b → a ≡ b
+use Rattle.swift.specs.Demand.{Distinct}
 
 or-none : (a b : Bool) → (a || b) ≡ false → (a ≡ false) × (b ≡ false)
 or-none true b e = (e, cc)

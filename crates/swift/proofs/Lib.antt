@@ -3,3 +3,4 @@ pub mod Xor
 pub mod Rows
 pub mod Blocks
 pub mod Rounds
+pub mod Roles
