@@ -16,7 +16,7 @@ use borrow.Author.Tests.{eq-eqb}
 use Rattle.graph.specs.Nodes.{Node, go, branch, ret, stop, Action, const, op, input, output, Operand, register, constant}
 use Rattle.graph.specs.Paths.{marked, reached}
 use Rattle.graph.specs.Accepted.{ActionIn, OperandIn, NodeIn, NoCatch, SourceGraph}
-use Rattle.harden.specs.Hardened.{Source, isLeader, sign, crossing, groupAt, prepare, update, check, branchGroup}
+use Rattle.harden.specs.Hardened.{Source, isLeader, sign, crossing, groupAt, prepare, update, check, branchGroup, crossingGroup}
 use Rattle.bench.specs.Words.{operate, compare}
 use Rattle.bench.specs.Steps.{Machine, Setting, Status, going, ended, Progress, at, get, operandOf, setting, act, branchTo, counted, stopped, execute, unless}
 use Rattle.bench.specs.Runs.{next}
@@ -126,9 +126,31 @@ pub record Doubling (t : Trial) (σ m : Machine) : Type 0 where
   pub signed : gsr t m ≡ signOf t n
   pub prepared : rts t m ≡ bitXor (signOf t n) (signOf t (σ .node))
 
+-- one round of the source, and of the hardened run
+abbrev pub SourceStep : Trial → Machine → Progress → Type 0
+SourceStep t σ p = next (plain t) Undisturbed (at σ going) ≡ p
+
+abbrev pub HardenedStep : Trial → Machine → Progress → Type 0
+HardenedStep t m p = next (hardened t) Undisturbed (at m going) ≡ p
+
+-- the counts after a source step: one step more, so many branches, and whether the jump crosses
+pub record Moved (t : Trial) (σ σ′ : Machine) (branches : ℕ) (crosses : Bool) : Type 0 where
+  pub one-step : σ′ .steps ≡ σ .steps + 1
+  pub some-branches : σ′ .branches ≡ σ .branches + branches
+  pub crossed : crossing (t .source) (σ .node) ≡ crosses
+
+-- what one round makes of a source node: the next one, a crossing edge, a first test, an end in a step, or a stop before one
+pub data Departs (t : Trial) (σ m : Machine) : Type 0 where
+  walks : (σ′ m′ : Machine) → SourceStep t σ (at σ′ going) → HardenedStep t m (at m′ going) → Moved t σ σ′ 0 false → AtSource t σ′ m′ → Departs t σ m
+  jumps : (σ′ m′ : Machine) → SourceStep t σ (at σ′ going) → HardenedStep t m (at m′ going) → Moved t σ σ′ 0 true → Preparing t σ′ m′ → Departs t σ m
+  tests : (σ′ m′ : Machine) → SourceStep t σ (at σ′ going) → HardenedStep t m (at m′ going) → Moved t σ σ′ 1 false → Tested t σ′ m′ → Departs t σ m
+  ends : (value : ℕ) → SourceStep t σ (at (counted σ) (ended (Returned value))) → HardenedStep t m (at (counted m) (ended (Returned value)))
+      → crossing (t .source) (σ .node) ≡ false → Departs t σ m
+  stops : (o : Outcome) → SourceStep t σ (at σ (ended o)) → HardenedStep t m (at m (ended o)) → stopping (ended o) ≡ 1 → Departs t σ m
+
 -- one step of the hardened run, to a machine in the next role
 abbrev pub Onward : Trial → Machine → (Machine → Type 0) → Type 0
-Onward t m Role = (m′ : Machine) × (next (hardened t) Undisturbed (at m going) ≡ at m′ going) × Role m′
+Onward t m Role = (m′ : Machine) × HardenedStep t m (at m′ going) × Role m′
 
 module _ (t : Trial) (ok : Accepted (t .source)) where
   abbrev s : Source
@@ -154,6 +176,10 @@ module _ (t : Trial) (ok : Accepted (t .source)) where
       → compare c (get m a) (operandOf m b) ≡ compare c (get σ a) (operandOf σ b)
   test-along along c a b h k = ap₂ (compare c) (get-along along a h) (operand-along along b k)
 
+  pub branch-operand : (m : Machine) (n : ℕ) (b : Operand) → operandOf (branchTo m n) b ≡ operandOf m b
+  branch-operand m n (register b) = refl
+  branch-operand m n (constant k) = refl
+
   -- a signature register is set, and the machine goes to another node
   pub set-along : {σ m : Machine} → Along t σ m → (d v next : ℕ) → R ≤ d → Along t σ (setting m d v next)
   set-along {σ} {m} along d v next h = record {
@@ -174,14 +200,14 @@ module _ (t : Trial) (ok : Accepted (t .source)) where
 
   -- ---- one step from each role
 
-  check-step : {σ m : Machine} → Checking t σ m → Onward t m (AtSource t σ)
+  pub check-step : {σ m : Machine} → Checking t σ m → Onward t m (AtSource t σ)
   unfolding compare
   check-step {σ} {m} c =
       ( branchTo m (σ .node)
       , step-at (hardened t) Undisturbed m (checkFor t (σ .node)) (c .row) ∙ rw (eq-eqb (gsr t m) (signOf t (σ .node)) (c .signed))
       , record { along = branch-along (c .along) (σ .node); inside = c .inside; node = refl; signed = c .signed })
 
-  update-step : {σ m : Machine} → Updating t σ m → Onward t m (Checking t σ)
+  pub update-step : {σ m : Machine} → Updating t σ m → Onward t m (Checking t σ)
   unfolding operate
   update-step {σ} {m} u =
       let value : operate 4 (gsr t m) (rts t m) ≡ signOf t (σ .node) =
@@ -195,7 +221,7 @@ module _ (t : Trial) (ok : Accepted (t .source)) where
         signed = set-same (u .along) R (signOf t (σ .node)) (u .then) (omega (arith, few));
       })
 
-  prepare-step : {σ m : Machine} → Preparing t σ m → Onward t m (Updating t σ)
+  pub prepare-step : {σ m : Machine} → Preparing t σ m → Onward t m (Updating t σ)
   prepare-step {σ} {m} p =
       let v = bitXor (p .from) (signOf t (σ .node)) in
       ( setting m (R + 1) v (p .then)
@@ -248,7 +274,7 @@ module _ (t : Trial) (ok : Accepted (t .source)) where
     pub way-along : {m : Machine} → Along t σ m → compare (way .comparison) (get m (way .left)) (operandOf m (way .right)) ≡ w
     way-along along = test-along along (way .comparison) (way .left) (way .right) (way-in .1) (way-in .2) ∙ way .outcome
 
-  tested-step : {σ m : Machine} → Tested t σ m → Onward t m (Doubling t σ)
+  pub tested-step : {σ m : Machine} → Tested t σ m → Onward t m (Doubling t σ)
   tested-step {σ} {m} q =
       let n = q .n in
       let v = bitXor (signOf t n) (signOf t (σ .node)) in
@@ -267,7 +293,7 @@ module _ (t : Trial) (ok : Accepted (t .source)) where
         prepared = set-same (q .along) (R + 1) v (groupAt s n + 2) (omega (arith, few));
       })
 
-  doubling-step : {σ m : Machine} → Doubling t σ m → Onward t m (Updating t σ)
+  pub doubling-step : {σ m : Machine} → Doubling t σ m → Onward t m (Updating t σ)
   doubling-step {σ} {m} d =
       let e = groupAt s (d .n) in
       let w = d .way in
@@ -284,3 +310,166 @@ module _ (t : Trial) (ok : Accepted (t .source)) where
         signed = d .signed;
         prepared = d .prepared;
       })
+
+  -- ---- from a source node
+
+  -- what a node with one edge does keeps the two machines along, and leaves GSR alone
+  act-along : {σ m : Machine} → Along t σ m → (action : Action) (next next′ : ℕ) → ActionIn R action
+      → Along t (act (t .inputs) action next σ) (act (t .inputs) action next′ m)
+  act-along {σ} {m} along action next next′ = by action
+    where
+      to : (d v v′ : ℕ) → v ≡ v′ → d < R → take R (set (m .registers) d v) ≡ take R (set (σ .registers) d v′)
+      to d v v′ e h =
+          take-set-lt R (m .registers) d v h ∙ ap₂ (λ l x. set l d x) (along .registers) e ∙ sym (take-set-lt R (σ .registers) d v′ h)
+      full : (d v : ℕ) → length (set (m .registers) d v) ≡ 64
+      full d v = length-set (m .registers) d v ∙ along .full
+      by : (action : Action) → ActionIn R action → Along t (act (t .inputs) action next σ) (act (t .inputs) action next′ m)
+      by (const d k) h = record { registers = to d k k refl h; reads = along .reads; events = along .events; full = full d k }
+      by (op o d a b) h =
+          let v = operate o (get m a) (get m b) in
+          let e : v ≡ operate o (get σ a) (get σ b) = ap₂ (operate o) (get-along along a (h .2)) (get-along along b (h .3)) in
+          record { registers = to d v (operate o (get σ a) (get σ b)) e (h .1); reads = along .reads; events = along .events; full = full d v }
+      by (input d) h =
+          let v = getD (t .inputs) (m .reads) 0 in
+          let e : v ≡ getD (t .inputs) (σ .reads) 0 = ap (λ r. getD (t .inputs) r 0) (along .reads) in
+          record { registers = to d v (getD (t .inputs) (σ .reads) 0) e h; reads = ap (_+ 1) (along .reads); events = along .events; full = full d v }
+      by (output port a) h = record {
+        registers = along .registers;
+        reads = along .reads;
+        events = ap₂ (λ l x. l ++ (port ∷ x ∷ [])) (along .events) (get-along along a (h .1));
+        full = along .full;
+      }
+
+  act-gsr : (m : Machine) (action : Action) (next : ℕ) → ActionIn R action → gsr t (act (t .inputs) action next m) ≡ gsr t m
+  act-gsr m (const d k) next h = getD-set-other (m .registers) d R k 0 (λ e. omega arith)
+  act-gsr m (op o d a b) next h = getD-set-other (m .registers) d R (operate o (get m a) (get m b)) 0 (λ e. omega (arith, h .1))
+  act-gsr m (input d) next h = getD-set-other (m .registers) d R (getD (t .inputs) (m .reads) 0) 0 (λ e. omega arith)
+  act-gsr m (output port a) next h = refl
+
+  -- what stops one stops the other, one round later than its last step
+  stopped-alike : {σ m : Machine} → Along t σ m → (action : Action) (next next′ : ℕ) → stopped (t .room) (go action next′) m ≡ stopped (t .room) (go action next) σ
+  stopped-alike along (const d k) next next′ = refl
+  stopped-alike along (op o d a b) next next′ = refl
+  stopped-alike along (input d) next next′ = refl
+  stopped-alike along (output port a) next next′ = ap (λ l. cond (leb (length l + 2) (t .room)) none (some Full)) (along .events)
+
+  stopped-stopping : (σ : Machine) (action : Action) (next : ℕ) (o : Outcome) → stopped (t .room) (go action next) σ ≡ some o → stopping (ended o) ≡ 1
+  stopped-stopping σ (const d k) next o e = cc
+  stopped-stopping σ (op p d a b) next o e = cc
+  stopped-stopping σ (input d) next o e = cc
+  stopped-stopping σ (output port a) next o e = by (leb (length (σ .events) + 2) (t .room)) e
+    where
+      by : (b : Bool) → cond b none (some Full) ≡ some o → stopping (ended o) ≡ 1
+      by true e = cc
+      by false e = let f : o ≡ Full = cc in rw f
+
+  acted : (σ : Machine) (action : Action) (next : ℕ)
+      → (act (t .inputs) action next σ .node ≡ next) × (act (t .inputs) action next σ .steps ≡ σ .steps + 1) × (act (t .inputs) action next σ .branches ≡ σ .branches + 0)
+  acted σ (const d k) next = (refl, refl, sym (add-zero (σ .branches)))
+  acted σ (op o d a b) next = (refl, refl, sym (add-zero (σ .branches)))
+  acted σ (input d) next = (refl, refl, sym (add-zero (σ .branches)))
+  acted σ (output port a) next = (refl, refl, sym (add-zero (σ .branches)))
+
+  module _ {σ m : Machine} (here : AtSource t σ m) where
+    abbrev n : ℕ
+    n = σ .node
+
+    abbrev along : Along t σ m
+    along = here .along
+
+    -- the rows of a crossing edge's group
+    crossing-row : (action : Action) (l : ℕ) → s .graph n ≡ go action l → crossing s n ≡ true → (j : ℕ) → j < 3
+        → hardenedGraph t (groupAt s n + j) ≡ getD (crossingGroup R (s .nodes + 1) (groupAt s n) (signOf t n) l (signOf t l)) j stop
+    crossing-row action l is c j h =
+        let inside : j < extraOf s n = rw (is, c) h in
+        rw (is, c) at (extra-row t n j (here .inside) inside)
+
+    arrive : (action : Action) (l : ℕ) → s .graph n ≡ go action l → l < s .nodes → (b : Bool) → crossing s n ≡ b → (σ′ m′ : Machine)
+        → SourceStep t σ (at σ′ going) → HardenedStep t m (at m′ going) → Moved t σ σ′ 0 b → Along t σ′ m′
+        → σ′ .node ≡ l → m′ .node ≡ cond b (groupAt s n) l → gsr t m′ ≡ signOf t n → Departs t σ m
+    unfolding crossing
+    arrive action l is l< false c σ′ m′ source hard moved to at-l at-l′ signed =
+        let inner : isLeader s l ≡ false = rw is at c in
+        walks σ′ m′ source hard moved (record {
+          along = to;
+          inside = rw at-l l<;
+          node = at-l′ ∙ sym at-l;
+          signed = signed ∙ sym (same-sign s n l action is (here .inside) inner (ok .all-reached l l<)) ∙ ap (signOf t) (sym at-l);
+        })
+    arrive action l is l< true c σ′ m′ source hard moved to at-l at-l′ signed =
+        let e = groupAt s n in
+        let first : hardenedGraph t e ≡ prepare R (signOf t n) (signOf t l) (e + 1) = rw (add-zero e) at (crossing-row action l is c 0 (omega arith)) in
+        jumps σ′ m′ source hard moved (record {
+          along = to;
+          inside = rw at-l l<;
+          from = signOf t n;
+          then = e + 1;
+          last = e + 2;
+          row = ap (hardenedGraph t) at-l′ ∙ first ∙ ap (λ k. prepare R (signOf t n) (signOf t k) (e + 1)) (sym at-l);
+          then-row = crossing-row action l is c 1 (omega arith);
+          last-row = crossing-row action l is c 2 (omega arith) ∙ ap (checkFor t) (sym at-l);
+          signed = signed;
+        })
+
+    leave : (action : Action) (l : ℕ) → s .graph n ≡ go action l → (b : Bool) → crossing s n ≡ b → Departs t σ m
+    leave action l is b c = by (stopped (t .room) (go action l) σ) refl
+      where
+        inside : ActionIn R action × (l < s .nodes)
+        inside = rw is at (ok .in-order .node-in n (here .inside))
+        l′ : ℕ
+        l′ = cond b (groupAt s n) l
+        row : hardenedGraph t (m .node) ≡ go action l′
+        row = ap (hardenedGraph t) (here .node) ∙ own-row t n (here .inside) ∙ rw (c, is)
+        σ′ : Machine
+        σ′ = act (t .inputs) action l σ
+        m′ : Machine
+        m′ = act (t .inputs) action l′ m
+        source : (o : Option Outcome) → stopped (t .room) (go action l) σ ≡ o → SourceStep t σ (unless o σ (at σ′ going))
+        source o e = step-at (plain t) Undisturbed σ (go action l) is ∙ ap (λ o. unless o σ (at σ′ going)) e
+        hard : (o : Option Outcome) → stopped (t .room) (go action l) σ ≡ o → HardenedStep t m (unless o m (at m′ going))
+        hard o e = step-at (hardened t) Undisturbed m (go action l′) row ∙ ap (λ o. unless o m (at m′ going)) (stopped-alike along action l l′ ∙ e)
+        by : (o : Option Outcome) → stopped (t .room) (go action l) σ ≡ o → Departs t σ m
+        by (some o) e = stops o (source (some o) e) (hard (some o) e) (stopped-stopping σ action l o e)
+        by none e =
+            let moved : Moved t σ σ′ 0 b = record { one-step = acted σ action l .1; some-branches = acted σ action l .2; crossed = c } in
+            arrive action l is (inside .1) b c σ′ m′ (source none e) (hard none e) moved
+            (act-along along action l l′ (inside .0)) (acted σ action l .0) (acted m action l′ .0) (act-gsr m action l′ (inside .0) ∙ here .signed)
+
+    part : (c a yea nay : ℕ) (b : Operand) → s .graph n ≡ branch c a b yea nay → (w : Bool) → compare c (get σ a) (operandOf σ b) ≡ w → Departs t σ m
+    unfolding crossing
+    part c a yea nay b is w h =
+        let inside : NodeIn R (s .nodes) (branch c a b yea nay) = rw is at (ok .in-order .node-in n (here .inside)) in
+        let row : hardenedGraph t (m .node) ≡ branch c a b (groupAt s n) (groupAt s n + 1) = ap (hardenedGraph t) (here .node) ∙ own-row t n (here .inside) ∙ rw is in
+        let target : ℕ = cond w yea nay in
+        let target< : target < s .nodes = elim w as (λ w. cond w yea nay < s .nodes) [ true ↦ inside .3 | false ↦ inside .4 ] in
+        let place : cond w (groupAt s n) (groupAt s n + 1) ≡ groupAt s n + cond w 0 1 =
+          elim w as (λ w. cond w (groupAt s n) (groupAt s n + 1) ≡ groupAt s n + cond w 0 1) [ true ↦ sym (add-zero (groupAt s n)) | false ↦ refl ] in
+        tests (branchTo σ target) (branchTo m (cond w (groupAt s n) (groupAt s n + 1)))
+        (step-at (plain t) Undisturbed σ (branch c a b yea nay) is ∙ rw h)
+        (step-at (hardened t) Undisturbed m (branch c a b (groupAt s n) (groupAt s n + 1)) row ∙ rw (test-along along c a b (inside .1) (inside .2) ∙ h))
+        (record { one-step = refl; some-branches = refl; crossed = rw is })
+        (record {
+          along = record { registers = along .registers; reads = along .reads; events = along .events; full = along .full };
+          inside = target<;
+          n = n;
+          w = w;
+          way = record { here = here .inside; comparison = c; left = a; right = b; yea = yea; nay = nay; is-branch = is; outcome = ap (compare c (get σ a)) (branch-operand σ target b) ∙ h; target = refl };
+          place = place;
+          signed = here .signed;
+        })
+
+    pub depart : Departs t σ m
+    unfolding crossing
+    depart = by (s .graph n) refl
+      where
+        by : (node : Node) → s .graph n ≡ node → Departs t σ m
+        by (go action l) is = leave action l is (crossing s n) refl
+        by (branch c a b yea nay) is = part c a yea nay b is (compare c (get σ a) (operandOf σ b)) refl
+        by (ret a) is =
+            let a< : a < R = rw is at (ok .in-order .node-in n (here .inside)) in
+            let row : hardenedGraph t (m .node) ≡ ret a = ap (hardenedGraph t) (here .node) ∙ own-row t n (here .inside) ∙ rw is in
+            ends (get σ a) (step-at (plain t) Undisturbed σ (ret a) is)
+            (step-at (hardened t) Undisturbed m (ret a) row ∙ ap (λ v. at (counted m) (ended (Returned v))) (get-along along a a<)) (rw is)
+        by stop is =
+            let catchless : NoCatch stop = rw is at (ok .in-order .no-catch n (here .inside)) in
+            absurd catchless
