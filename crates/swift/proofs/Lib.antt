@@ -4,3 +4,4 @@ pub mod Rows
 pub mod Blocks
 pub mod Rounds
 pub mod Roles
+pub mod Following
