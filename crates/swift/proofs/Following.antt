@@ -89,14 +89,14 @@ module _ (t : Trial) (ok : Accepted (t .source)) where
   agreed here = record { same-node = here .node; same-registers = here .along .registers; same-reads = here .along .reads; same-events = here .along .events }
 
   -- node N
-  abbrev entered : Machine
+  abbrev pub entered : Machine
   entered = setting (start (t .source .nodes)) R (signOf t (t .source .entry)) (t .source .entry)
 
-  first-step : HardenedStep t (start (t .source .nodes)) (at entered going)
+  pub first-step : HardenedStep t (start (t .source .nodes)) (at entered going)
   unfolding start firstRow
   first-step = step-at (hardened t) Undisturbed (start (t .source .nodes)) (firstRow (t .source)) (first-row t)
 
-  first-source : AtSource t (start (t .source .entry)) entered
+  pub first-source : AtSource t (start (t .source .entry)) entered
   unfolding start
   first-source =
       let few : R ≤ 62 = ok .in-order .few-registers in

@@ -5,3 +5,5 @@ pub mod Blocks
 pub mod Rounds
 pub mod Roles
 pub mod Following
+pub mod Standing
+pub mod Inverting
