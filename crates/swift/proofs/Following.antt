@@ -56,9 +56,9 @@ module _ (t : Trial) where
   steps-more rounds σ σ′ status branches crosses e f moved =
       let up : ltb (σ .steps) (σ′ .steps) ≡ true = lt-ltb (σ .steps) (σ′ .steps) (omega arith) in
       let x : crossings t (suc rounds) ≡ crossings t rounds + cond crosses 1 0 =
-        crossings-step rounds (at σ going) (at σ′ status) e f
-        ∙ ap₂ (λ c l. crossings t rounds + cond (c && l) 1 0) (moved .crossed) up
-        ∙ ap (λ c. crossings t rounds + cond c 1 0) (and-true crosses) in
+      crossings-step rounds (at σ going) (at σ′ status) e f
+      ∙ ap₂ (λ c l. crossings t rounds + cond (c && l) 1 0) (moved .crossed) up
+      ∙ ap (λ c. crossings t rounds + cond c 1 0) (and-true crosses) in
       steps-are (suc rounds) (at σ′ status) f ∙ omega (arith, steps-are rounds (at σ going) e)
 
   -- a round that is no step is answered by none
@@ -67,10 +67,10 @@ module _ (t : Trial) where
   steps-same rounds p q e f same =
       let still : ltb (p .machine .steps) (q .machine .steps) ≡ false = rw same (le-ltb (p .machine .steps) (p .machine .steps) (omega arith)) in
       let x : crossings t (suc rounds) ≡ crossings t rounds =
-        crossings-step rounds p q e f
-        ∙ ap (λ l. crossings t rounds + cond (crossing (t .source) (p .machine .node) && l) 1 0) still
-        ∙ ap (λ c. crossings t rounds + cond c 1 0) (and-false (crossing (t .source) (p .machine .node)))
-        ∙ add-zero (crossings t rounds) in
+      crossings-step rounds p q e f
+      ∙ ap (λ l. crossings t rounds + cond (crossing (t .source) (p .machine .node) && l) 1 0) still
+      ∙ ap (λ c. crossings t rounds + cond c 1 0) (and-false (crossing (t .source) (p .machine .node)))
+      ∙ add-zero (crossings t rounds) in
       steps-are (suc rounds) q f ∙ rw (same, x) (sym (steps-are rounds p e))
 
 -- ---- beside the source

@@ -1,1 +1,375 @@
--- x
+-- The second half of demand 3: an inverted branch is caught within five further steps with no read or event in between, but
+-- for a doubled test whose two targets are one node, where two steps later the run is exactly the undisturbed one.
+-- Assumes nothing.
+use mathlib.Core.Path.{_≡_, refl, sym, ap, ap₂, _∙_, subst}
+use mathlib.Core.Logic.{_⊎_, inl, inr}
+use mathlib.Core.Bool.{Bool, true, false, cond, not}
+use Prim.Native.Nat.{ℕ, zero, suc, _+_, _≤_, _<_}
+use native.Mathlib.Nat.{add-assoc}
+use native.Mathlib.Numerals.{add-one}
+use native.Mathlib.Decide.{ℕ-discrete, decLt}
+use native.Mathlib.Omega.{arith}
+use lib.ListN.{length}
+use lib.Seq.{getD-set-same}
+use lib.Bits.{bitXor}
+use lib.Dec.{eqb}
+use borrow.Author.Tests.{eq-eqb, ne-eqb}
+use Rattle.graph.specs.Nodes.{Node, go, branch, ret, stop, Operand}
+use Rattle.graph.specs.Accepted.{NodeIn}
+use Rattle.harden.specs.Hardened.{Source, sign, groupAt, prepare, update, firstRow}
+use Rattle.bench.specs.Words.{operate, compare}
+use Rattle.bench.specs.Steps.{Machine, Setting, Status, going, ended, Progress, at, start, get, operandOf, setting, branchTo, counted}
+use Rattle.bench.specs.Runs.{next, after, runOf}
+use Rattle.bench.specs.declared.Fault.{Fault}
+use Rattle.bench.specs.declared.Fault.the-variants.{Undisturbed, Inverted}
+use Rattle.bench.specs.declared.Outcome.the-variants.{Caught}
+use Rattle.swift.specs.Demand.{Trial, hardened, hardenedGraph, hardenedRun, isBranch, Executes, soon, CaughtSoon, Unchanged, TestOf, first, again, OneTarget}
+use Rattle.swift.proofs.Xor.{xor-cancel}
+use Rattle.swift.proofs.Rows.{ownRowOf, own-row, first-row, catch-row, extraOf, group-order, group-above}
+use Rattle.swift.proofs.Blocks.{sign-apart, targets-lead}
+use Rattle.swift.proofs.Rounds.{after-add, after-first, after-ended, step-at, before-place, past-place, inverted-step}
+use Rattle.swift.proofs.Roles.{Accepted, gsr, rts, signOf, checkFor, Along, AtSource, Checking, Updating, Preparing, Tested, Doubling, BranchAt, side, Way, branch-in, branch-row, prepare-row, update-row, check-row, doubled-row, way-along, test-along, set-along, both-along, set-same, gsr-kept, fork, way-from, prepare-goes, double-goes}
+use Rattle.swift.proofs.Standing.{Standing, starting, at-source, tested, doubling, preparing, updating, checking, standing}
+
+module _ (t : Trial) (ok : Accepted (t .source)) where
+  abbrev s : Source
+  s = t .source
+
+  abbrev R : ℕ
+  R = s .registers
+
+  -- the hardened run from a machine, undisturbed
+  abbrev from : Machine → ℕ → Progress
+  from m rounds = after (hardened t) Undisturbed (at m going) rounds
+
+  -- ---- to the catch
+
+  catches : (m : Machine) (more : ℕ) → m .node ≡ s .nodes + 1 → from m (suc more) ≡ at (counted m) (ended Caught)
+  catches m more e =
+      after-first (hardened t) Undisturbed (at m going) (at (counted m) (ended Caught)) more
+      (step-at (hardened t) Undisturbed m stop (ap (hardenedGraph t) e ∙ catch-row t))
+      ∙ after-ended (hardened t) Undisturbed (counted m) Caught more
+
+  -- a check of another signature
+  wrong-check : (m : Machine) (more n : ℕ) → hardenedGraph t (m .node) ≡ checkFor t n → (gsr t m ≡ signOf t n → ⊥)
+      → from m (suc (suc more)) ≡ at (counted (branchTo m (s .nodes + 1))) (ended Caught)
+  unfolding compare
+  wrong-check m more n row other =
+      after-first (hardened t) Undisturbed (at m going) (at (branchTo m (s .nodes + 1)) going) (suc more)
+      (step-at (hardened t) Undisturbed m (checkFor t n) row ∙ rw (ne-eqb (gsr t m) (signOf t n) other))
+      ∙ catches (branchTo m (s .nodes + 1)) more refl
+
+  -- an update prepared for another signature than the check's
+  wrong-update : (m : Machine) (more i n g v : ℕ) → length (m .registers) ≡ 64 → hardenedGraph t (m .node) ≡ update R i → hardenedGraph t i ≡ checkFor t n
+      → gsr t m ≡ g → rts t m ≡ bitXor g v → (v ≡ signOf t n → ⊥)
+      → from m (suc (suc (suc more))) ≡ at (counted (branchTo (setting m R v i) (s .nodes + 1))) (ended Caught)
+  unfolding operate
+  wrong-update m more i n g v full row then signed prepared other =
+      let few : R ≤ 62 = ok .in-order .few-registers in
+      let value : operate 4 (gsr t m) (rts t m) ≡ v = ap₂ (λ a b. operate 4 a b) signed prepared ∙ xor-cancel g v in
+      let new : gsr t (setting m R v i) ≡ v = getD-set-same (m .registers) R v 0 (rw full (omega arith)) in
+      after-first (hardened t) Undisturbed (at m going) (at (setting m R v i) going) (suc (suc more))
+      (step-at (hardened t) Undisturbed m (update R i) row ∙ ap (λ x. at (setting m R x i) going) value)
+      ∙ wrong-check (setting m R v i) more n then (λ e. other (sym new ∙ e))
+
+  -- an update prepared for the check's signature
+  passes : (m : Machine) (more i n g : ℕ) → length (m .registers) ≡ 64 → hardenedGraph t (m .node) ≡ update R i → hardenedGraph t i ≡ checkFor t n
+      → gsr t m ≡ g → rts t m ≡ bitXor g (signOf t n) → from m (suc (suc more)) ≡ from (branchTo (setting m R (signOf t n) i) n) more
+  unfolding operate compare
+  passes m more i n g full row then signed prepared =
+      let few : R ≤ 62 = ok .in-order .few-registers in
+      let value : operate 4 (gsr t m) (rts t m) ≡ signOf t n = ap₂ (λ a b. operate 4 a b) signed prepared ∙ xor-cancel g (signOf t n) in
+      let m′ = setting m R (signOf t n) i in
+      let new : gsr t m′ ≡ signOf t n = getD-set-same (m .registers) R (signOf t n) 0 (rw full (omega arith)) in
+      after-first (hardened t) Undisturbed (at m going) (at m′ going) (suc more)
+      (step-at (hardened t) Undisturbed m (update R i) row ∙ ap (λ x. at (setting m R x i) going) value)
+      ∙ after-first (hardened t) Undisturbed (at m′ going) (at (branchTo m′ n) going) more
+      (step-at (hardened t) Undisturbed m′ (checkFor t n) then ∙ rw (eq-eqb (gsr t m′) (signOf t n) new))
+
+  -- ---- the run with the branch inverted that it executes at this place
+
+  module _ (place rounds : ℕ) (m m′ : Machine) (here : hardenedRun t Undisturbed rounds ≡ at m going) (at-place : m .branches ≡ place)
+      (wrong : next (hardened t) (Inverted place) (at m going) ≡ at m′ going) (counts : m′ .branches ≡ m .branches + 1) where
+    inverted-run : (more : ℕ) → hardenedRun t (Inverted place) (rounds + 1 + more) ≡ from m′ more
+    unfolding hardenedRun runOf after
+    inverted-run more =
+        let begin = at (start (s .nodes)) going in
+        let reached : hardenedRun t Undisturbed rounds .machine .branches ≡ place = ap (λ p. p .machine .branches) here ∙ at-place in
+        let before : after (hardened t) (Inverted place) begin rounds ≡ at m going = before-place (hardened t) place begin rounds (omega arith) ∙ here in
+        let step : after (hardened t) (Inverted place) begin (rounds + 1) ≡ at m′ going =
+        ap (after (hardened t) (Inverted place) begin) (add-one rounds) ∙ ap (next (hardened t) (Inverted place)) before ∙ wrong in
+        after-add (hardened t) (Inverted place) begin (rounds + 1) more
+        ∙ ap (λ p. after (hardened t) (Inverted place) p more) step
+        ∙ past-place (hardened t) place (at m′ going) more (omega arith)
+
+    caught-soon : (m″ : Machine) → from m′ soon ≡ at m″ (ended Caught) → m″ .reads ≡ m .reads → m″ .events ≡ m .events → CaughtSoon t place rounds
+    caught-soon m″ e reads events =
+        let run : hardenedRun t (Inverted place) (rounds + 1 + soon) ≡ at m″ (ended Caught) = inverted-run soon ∙ e in
+        record { is-caught = rw run; no-read = rw (run, here) reads; no-event = rw (run, here) events }
+
+    unchanged : (m° : Machine) → next (hardened t) Undisturbed (at m going) ≡ at m° going → from m′ 2 ≡ from m° 2 → Unchanged t place rounds
+    unfolding hardenedRun runOf after
+    unchanged m° right same more =
+        let begin = at (start (s .nodes)) going in
+        let step : after (hardened t) Undisturbed begin (rounds + 1) ≡ at m° going =
+        ap (after (hardened t) Undisturbed begin) (add-one rounds) ∙ ap (next (hardened t) Undisturbed) here ∙ right in
+        let plain-run : hardenedRun t Undisturbed (rounds + 1 + (2 + more)) ≡ from m° (2 + more) =
+        after-add (hardened t) Undisturbed begin (rounds + 1) (2 + more) ∙ ap (λ p. after (hardened t) Undisturbed p (2 + more)) step in
+        let meet : from m′ (2 + more) ≡ from m° (2 + more) =
+        after-add (hardened t) Undisturbed (at m′ going) 2 more ∙ ap (λ p. after (hardened t) Undisturbed p more) same ∙ sym (after-add (hardened t) Undisturbed (at m° going) 2 more) in
+        ap (hardenedRun t (Inverted place)) (add-assoc (rounds + 1) 2 more) ∙ inverted-run (2 + more) ∙ meet ∙ sym plain-run
+        ∙ ap (hardenedRun t Undisturbed) (sym (add-assoc (rounds + 1) 2 more))
+
+  -- ---- the three kinds of branches
+
+  -- what demand 3 says of the branch at a node
+  abbrev pub Answered : ℕ → ℕ → ℕ → Type 0
+  Answered node place rounds = (OneTarget s node × Unchanged t place rounds) ⊎ ((OneTarget s node → ⊥) × CaughtSoon t place rounds)
+
+  test-place : {n i : ℕ} → TestOf s n i → (i ≡ n) ⊎ (i ≡ groupAt s n + 2)
+  test-place first = inl refl
+  test-place again = inr refl
+
+  -- no two branches have one group
+  group-apart : {n k : ℕ} → BranchAt t n → BranchAt t k → groupAt s n ≡ groupAt s k → n ≡ k
+  group-apart {n} {k} b c e = omega (arith, by (decLt n k) (decLt k n))
+    where
+      wide : {j : ℕ} → BranchAt t j → extraOf s j ≡ 7
+      wide b = rw (b .is-branch)
+
+      by : Dec (n < k) → Dec (k < n) → (k ≤ n) × (n ≤ k)
+      by (yes l) d = absurd (omega (arith, group-order s n k l, wide b))
+      by (no d) (yes l) = absurd (omega (arith, group-order s k n l, wide c))
+      by (no d) (no d′) = (omega arith, omega arith)
+
+  abbrev branch-of : {i : ℕ} (o : OneTarget s i) → BranchAt t (o .node)
+  branch-of o = record { here = o .inside; comparison = o .comparison; left = o .left; right = o .right; yea = o .target; nay = o .target; is-branch = o .is-branch }
+
+  -- a node that makes a source branch's test compares a source register, and a check compares GSR
+  no-test : (i n : ℕ) → hardenedGraph t i ≡ checkFor t n → OneTarget s i → ⊥
+  no-test i n row o =
+      let left : o .left < R = branch-in t ok (branch-of o) .1 in
+      let e : R ≡ o .left = by (branch-of o) (o .test) row in
+      omega arith
+    where
+      by : {k j : ℕ} (b : BranchAt t k) → TestOf s k j → hardenedGraph t j ≡ checkFor t n → R ≡ b .left
+      by b first row = cc (branch-row t ok b)
+      by b again row = cc (doubled-row t ok b)
+
+  module _ {n : ℕ} (b : BranchAt t n) where
+    -- two targets have two signatures
+    apart : (w : Bool) → (b .yea ≡ b .nay → ⊥) → signOf t (side b (not w)) ≡ signOf t (side b w) → ⊥
+    apart w other = by w
+      where
+        same : signOf t (b .yea) ≡ signOf t (b .nay) → ⊥
+        same e =
+            let inside = branch-in t ok b in
+            let lead = targets-lead s n (b .comparison) (b .left) (b .yea) (b .nay) (b .right) (b .here) (b .is-branch) in
+            other (sign-apart s (ok .distinct) (ok .in-order .few-nodes) (b .yea) (b .nay) (inside .3) (inside .4) (lead .0) (lead .1) e)
+
+        by : (w : Bool) → signOf t (side b (not w)) ≡ signOf t (side b w) → ⊥
+        by true e = same (sym e)
+        by false e = same e
+
+    -- one target has one
+    together : b .yea ≡ b .nay → (u v : Bool) → side b u ≡ side b v
+    together e true true = refl
+    together e true false = e
+    together e false true = sym e
+    together e false false = refl
+
+    one-target : b .yea ≡ b .nay → (i : ℕ) → TestOf s n i → OneTarget s i
+    one-target e i test = record {
+      node = n;
+      inside = b .here;
+      test = test;
+      comparison = b .comparison;
+      left = b .left;
+      right = b .right;
+      target = b .yea;
+      is-branch = b .is-branch ∙ ap (branch (b .comparison) (b .left) (b .right) (b .yea)) (sym e);
+    }
+
+    -- a test of the branch at n is one of no other branch
+    only : (i : ℕ) → TestOf s n i → OneTarget s i → b .yea ≡ b .nay
+    only i test o = by (test-place test) (test-place (o .test))
+      where
+        k : ℕ
+        k = o .node
+
+        same : n ≡ k → b .yea ≡ b .nay
+        same e = cc (b .is-branch, ap (s .graph) e, o .is-branch)
+
+        by : (i ≡ n) ⊎ (i ≡ groupAt s n + 2) → (i ≡ k) ⊎ (i ≡ groupAt s k + 2) → b .yea ≡ b .nay
+        by (inl e) (inl f) = same (sym e ∙ f)
+        by (inl e) (inr f) = absurd (omega (arith, b .here, group-above s k))
+        by (inr e) (inl f) = absurd (omega (arith, o .inside, group-above s n))
+        by (inr e) (inr f) = same (group-apart b (branch-of o) (omega arith))
+
+  module _ (rounds : ℕ) (m : Machine) (here : hardenedRun t Undisturbed rounds ≡ at m going) where
+    abbrev place : ℕ
+    place = m .branches
+
+    -- the check, inverted, goes to the catch
+    at-check : (σ : Machine) → Checking t σ m → Answered (m .node) place rounds
+    unfolding compare
+    at-check σ c =
+        let m′ = branchTo m (s .nodes + 1) in
+        let wrong : next (hardened t) (Inverted place) (at m going) ≡ at m′ going =
+        inverted-step (hardened t) m 1 R (s .nodes + 1) (σ .node) _ false (c .row) (rw (eq-eqb (gsr t m) (signOf t (σ .node)) (c .signed))) in
+        inr (no-test (m .node) (σ .node) (c .row), caught-soon place rounds m m′ here refl wrong refl (counted m′) (catches m′ 4 refl) refl refl)
+
+    -- the doubled test, inverted, meets the other side's check
+    at-doubled : (σ : Machine) → Doubling t σ m → Answered (m .node) place rounds
+    unfolding after
+    at-doubled σ d = by (ℕ-discrete (b .yea) (b .nay))
+      where
+        n : ℕ
+        n = d .n
+
+        w : Bool
+        w = d .w
+
+        b : BranchAt t n
+        b = d .way .from
+
+        e : ℕ
+        e = groupAt s n
+
+        to : Bool → Machine
+        to u = branchTo m (cond u (e + 3) (e + 5))
+
+        test : TestOf s n (m .node)
+        test = subst (TestOf s n) (sym (d .place)) again
+
+        wrong : next (hardened t) (Inverted place) (at m going) ≡ at (to (not w)) going
+        wrong = inverted-step (hardened t) m (b .comparison) (b .left) (e + 3) (e + 5) (b .right) w (ap (hardenedGraph t) (d .place) ∙ doubled-row t ok b) (way-along t ok (d .way) (d .along))
+
+        by : Dec (b .yea ≡ b .nay) → Answered (m .node) place rounds
+        by (yes one) = inl (one-target b one (m .node) test, unchanged place rounds m (to (not w)) here refl wrong refl (to w) (double-goes t ok (d .way) (d .along) (d .place)) meet)
+          where
+            joins : (u : Bool) → from (to u) 2 ≡ at (branchTo (setting (to true) R (signOf t (σ .node)) 0) (σ .node)) going
+            joins u =
+                let there : σ .node ≡ side b u = d .way .target ∙ together b one w u in
+                passes (to u) 0 (cond u (e + 4) (e + 6)) (σ .node) (signOf t n) (d .along .full) (update-row t ok b u) (check-row t ok b u ∙ ap (checkFor t) (sym there)) (d .signed) (d .prepared)
+
+            meet : from (to (not w)) 2 ≡ from (to w) 2
+            meet = joins (not w) ∙ sym (joins w)
+        by (no two) =
+            inr (
+              (λ o. two (only b (m .node) test o)),
+              caught-soon place rounds m (to (not w)) here refl wrong refl _
+                  (wrong-update (to (not w)) 2 (cond (not w) (e + 4) (e + 6)) (side b (not w)) (signOf t n) (signOf t (σ .node)) (d .along .full) (update-row t ok b (not w)) (check-row t ok b (not w)) (d .signed) (d .prepared)
+                  (λ q. apart b w two (sym q ∙ ap (signOf t) (d .way .target))))
+                  refl refl,
+            )
+
+    -- the first test, inverted, prepares the other target's signature
+    at-first : (σ : Machine) → AtSource t σ m → (b : BranchAt t (σ .node)) → Answered (m .node) place rounds
+    at-first σ a b = by (ℕ-discrete (b .yea) (b .nay))
+      where
+        n : ℕ
+        n = σ .node
+
+        e : ℕ
+        e = groupAt s n
+
+        w : Bool
+        w = compare (b .comparison) (get σ (b .left)) (operandOf σ (b .right))
+
+        way : Way t n w (branchTo σ (side b w))
+        way = way-from t ok σ b w refl
+
+        to : Bool → Machine
+        to u = branchTo m (cond u e (e + 1))
+
+        prepared : Bool → Machine
+        prepared u = setting (to u) (R + 1) (bitXor (signOf t n) (signOf t (side b u))) (e + 2)
+
+        test : TestOf s n (m .node)
+        test = subst (TestOf s n) (sym (a .node)) first
+
+        goes : compare (b .comparison) (get m (b .left)) (operandOf m (b .right)) ≡ w
+        goes = let inside = branch-in t ok b in test-along t ok (a .along) (b .comparison) (b .left) (b .right) (inside .1) (inside .2)
+
+        row : hardenedGraph t (m .node) ≡ branch (b .comparison) (b .left) (b .right) e (e + 1)
+        row = ap (hardenedGraph t) (a .node) ∙ branch-row t ok b
+
+        wrong : next (hardened t) (Inverted place) (at m going) ≡ at (to (not w)) going
+        wrong = inverted-step (hardened t) m (b .comparison) (b .left) e (e + 1) (b .right) w row goes
+
+        right : next (hardened t) Undisturbed (at m going) ≡ at (to w) going
+        right = step-at (hardened t) Undisturbed m (branch (b .comparison) (b .left) (b .right) e (e + 1)) row ∙ rw goes
+
+        prepares : (u : Bool) (more : ℕ) → from (to u) (suc more) ≡ from (prepared u) more
+        prepares u more = after-first (hardened t) Undisturbed (at (to u) going) (at (prepared u) going) more (prepare-goes t ok (to u) b u (fork e u))
+
+        by : Dec (b .yea ≡ b .nay) → Answered (m .node) place rounds
+        by (yes one) = inl (one-target b one (m .node) test, unchanged place rounds m (to (not w)) here refl wrong refl (to w) right meet)
+          where
+            meet : from (to (not w)) 2 ≡ from (to w) 2
+            meet =
+                prepares (not w) 1
+                ∙ ap (λ k. from (setting (to true) (R + 1) (bitXor (signOf t n) (signOf t k)) (e + 2)) 1) (together b one (not w) w)
+                ∙ sym (prepares w 1)
+        by (no two) =
+            inr (
+              (λ o. two (only b (m .node) test o)),
+              caught-soon place rounds m (to (not w)) here refl wrong refl _
+                  (prepares (not w) 4
+                  ∙ after-first (hardened t) Undisturbed (at (prepared (not w)) going) (at tested-again going) 3 (double-goes t ok way along refl)
+                  ∙ wrong-update tested-again 0 (cond w (e + 4) (e + 6)) (side b w) (signOf t n) (signOf t (side b (not w))) (along .full) (update-row t ok b w) (check-row t ok b w)
+                  (gsr-kept t ok (to (not w)) v (e + 2) ∙ a .signed) ready
+                  (apart b w two))
+                  refl refl,
+            )
+          where
+            v : ℕ
+            v = bitXor (signOf t n) (signOf t (side b (not w)))
+
+            parted : Along t (branchTo σ (side b w)) (to (not w))
+            parted = both-along t ok (a .along) (side b w) (cond (not w) e (e + 1))
+
+            along : Along t (branchTo σ (side b w)) (prepared (not w))
+            along = set-along t ok parted (R + 1) v (e + 2) (omega arith)
+
+            tested-again : Machine
+            tested-again = branchTo (prepared (not w)) (cond w (e + 3) (e + 5))
+
+            ready : rts t (prepared (not w)) ≡ v
+            ready = set-same t ok parted (R + 1) v (e + 2) (omega (arith, ok .in-order .few-registers))
+
+    module _ (branching : isBranch (hardenedGraph t (m .node)) ≡ true) where
+      no-branch : (node : Node) → hardenedGraph t (m .node) ≡ node → isBranch node ≡ false → Answered (m .node) place rounds
+      no-branch node e none =
+          let z : _≡_ {A = ℕ} 0 1 = cc (ap isBranch e) in
+          absurd (omega arith)
+
+      at-node : (σ : Machine) → AtSource t σ m → (node : Node) → s .graph (σ .node) ≡ node → Answered (m .node) place rounds
+      at-node σ a node is = by node is
+        where
+          own : hardenedGraph t (m .node) ≡ ownRowOf s (σ .node)
+          own = ap (hardenedGraph t) (a .node) ∙ own-row t (σ .node) (a .inside)
+
+          by : (node : Node) → s .graph (σ .node) ≡ node → Answered (m .node) place rounds
+          by (branch c l r yea nay) is = at-first σ a (record { here = a .inside; comparison = c; left = l; right = r; yea = yea; nay = nay; is-branch = is })
+          by (go action next) is = no-branch _ own (rw is)
+          by (ret v) is = no-branch _ own (rw is)
+          by stop is = no-branch _ own (rw is)
+
+      by-role : Standing t m → Answered (m .node) place rounds
+      unfolding start firstRow
+      by-role (starting e) = no-branch (firstRow s) (ap (λ n. hardenedGraph t (n .node)) e ∙ first-row t) refl
+      by-role (at-source σ a) = at-node σ a (s .graph (σ .node)) refl
+      by-role (tested σ q) = no-branch _ (ap (hardenedGraph t) (q .place) ∙ prepare-row t ok (q .way .from) (q .w)) refl
+      by-role (doubling σ d) = at-doubled σ d
+      by-role (preparing σ p) = no-branch _ (p .row) refl
+      by-role (updating σ u) = no-branch _ (u .row) refl
+      by-role (checking σ c) = at-check σ c
+
+  -- demand 3, with one branch inverted
+  pub answered : (place rounds : ℕ) → Executes t place rounds → Answered (hardenedRun t Undisturbed rounds .machine .node) place rounds
+  answered place rounds x =
+      let m = hardenedRun t Undisturbed rounds .machine in
+      let here : hardenedRun t Undisturbed rounds ≡ at m going = ap (at m) (x .under-way) in
+      rw (x .this-place) at (by-role rounds m here (x .at-branch) (standing t ok rounds m here))

@@ -93,8 +93,8 @@ pub record Preparing (t : Trial) (σ m : Machine) : Type 0 where
   pub last-row : hardenedGraph t last ≡ checkFor t (σ .node)
   pub signed : gsr t m ≡ from
 
--- a source branch that is left in one way
-pub record Way (t : Trial) (n : ℕ) (w : Bool) (σ : Machine) : Type 0 where
+-- a branch of the source
+pub record BranchAt (t : Trial) (n : ℕ) : Type 0 where
   pub here : n < t .source .nodes
   pub comparison : ℕ
   pub left : ℕ
@@ -102,8 +102,16 @@ pub record Way (t : Trial) (n : ℕ) (w : Bool) (σ : Machine) : Type 0 where
   pub yea : ℕ
   pub nay : ℕ
   pub is-branch : t .source .graph n ≡ branch comparison left right yea nay
-  pub outcome : compare comparison (get σ left) (operandOf σ right) ≡ w
-  pub target : σ .node ≡ cond w yea nay
+
+-- its target for an outcome of the test
+abbrev pub side : {t : Trial} {n : ℕ} → BranchAt t n → Bool → ℕ
+side b w = cond w (b .yea) (b .nay)
+
+-- the way that it is left
+pub record Way (t : Trial) (n : ℕ) (w : Bool) (σ : Machine) : Type 0 where
+  pub from : BranchAt t n
+  pub outcome : compare (from .comparison) (get σ (from .left)) (operandOf σ (from .right)) ≡ w
+  pub target : σ .node ≡ side from w
 
 -- after the first test
 pub record Tested (t : Trial) (σ m : Machine) : Type 0 where
@@ -147,6 +155,11 @@ pub data Departs (t : Trial) (σ m : Machine) : Type 0 where
   ends : (value : ℕ) → SourceStep t σ (at (counted σ) (ended (Returned value))) → HardenedStep t m (at (counted m) (ended (Returned value)))
       → crossing (t .source) (σ .node) ≡ false → Departs t σ m
   stops : (o : Outcome) → SourceStep t σ (at σ (ended o)) → HardenedStep t m (at m (ended o)) → stopping (ended o) ≡ 1 → Departs t σ m
+
+-- e or e + 1
+pub fork : (e : ℕ) (w : Bool) → cond w e (e + 1) ≡ e + cond w 0 1
+fork e true = sym (add-zero e)
+fork e false = refl
 
 -- one step of the hardened run, to a machine in the next role
 abbrev pub Onward : Trial → Machine → (Machine → Type 0) → Type 0
@@ -192,6 +205,9 @@ module _ (t : Trial) (ok : Accepted (t .source)) where
   pub branch-along : {σ m : Machine} → Along t σ m → (n : ℕ) → Along t σ (branchTo m n)
   branch-along along n = record { registers = along .registers; reads = along .reads; events = along .events; full = along .full }
 
+  pub both-along : {σ m : Machine} → Along t σ m → (k n : ℕ) → Along t (branchTo σ k) (branchTo m n)
+  both-along along k n = record { registers = along .registers; reads = along .reads; events = along .events; full = along .full }
+
   pub set-same : {σ m : Machine} → Along t σ m → (d v next : ℕ) → d < 64 → get (setting m d v next) d ≡ v
   set-same {σ} {m} along d v next h = getD-set-same (m .registers) d v 0 (rw (along .full) h)
 
@@ -202,114 +218,139 @@ module _ (t : Trial) (ok : Accepted (t .source)) where
 
   pub check-step : {σ m : Machine} → Checking t σ m → Onward t m (AtSource t σ)
   unfolding compare
-  check-step {σ} {m} c =
-      ( branchTo m (σ .node)
-      , step-at (hardened t) Undisturbed m (checkFor t (σ .node)) (c .row) ∙ rw (eq-eqb (gsr t m) (signOf t (σ .node)) (c .signed))
-      , record { along = branch-along (c .along) (σ .node); inside = c .inside; node = refl; signed = c .signed })
+  check-step {σ} {m} c = (
+    branchTo m (σ .node),
+    step-at (hardened t) Undisturbed m (checkFor t (σ .node)) (c .row) ∙ rw (eq-eqb (gsr t m) (signOf t (σ .node)) (c .signed)),
+    record { along = branch-along (c .along) (σ .node); inside = c .inside; node = refl; signed = c .signed },
+  )
 
   pub update-step : {σ m : Machine} → Updating t σ m → Onward t m (Checking t σ)
   unfolding operate
   update-step {σ} {m} u =
       let value : operate 4 (gsr t m) (rts t m) ≡ signOf t (σ .node) =
-        ap₂ (λ a b. operate 4 a b) (u .signed) (u .prepared) ∙ xor-cancel (u .from) (signOf t (σ .node)) in
-      ( setting m R (signOf t (σ .node)) (u .then)
-      , step-at (hardened t) Undisturbed m (update R (u .then)) (u .row) ∙ ap (λ v. at (setting m R v (u .then)) going) value
-      , record {
-        along = set-along (u .along) R (signOf t (σ .node)) (u .then) (omega arith);
-        inside = u .inside;
-        row = u .then-row;
-        signed = set-same (u .along) R (signOf t (σ .node)) (u .then) (omega (arith, few));
-      })
+      ap₂ (λ a b. operate 4 a b) (u .signed) (u .prepared) ∙ xor-cancel (u .from) (signOf t (σ .node)) in (
+        setting m R (signOf t (σ .node)) (u .then),
+        step-at (hardened t) Undisturbed m (update R (u .then)) (u .row) ∙ ap (λ v. at (setting m R v (u .then)) going) value,
+        record {
+          along = set-along (u .along) R (signOf t (σ .node)) (u .then) (omega arith);
+          inside = u .inside;
+          row = u .then-row;
+          signed = set-same (u .along) R (signOf t (σ .node)) (u .then) (omega (arith, few));
+        },
+      )
 
   pub prepare-step : {σ m : Machine} → Preparing t σ m → Onward t m (Updating t σ)
   prepare-step {σ} {m} p =
-      let v = bitXor (p .from) (signOf t (σ .node)) in
-      ( setting m (R + 1) v (p .then)
-      , step-at (hardened t) Undisturbed m (prepare R (p .from) (signOf t (σ .node)) (p .then)) (p .row)
-      , record {
-        along = set-along (p .along) (R + 1) v (p .then) (omega arith);
-        inside = p .inside;
-        from = p .from;
-        then = p .last;
-        row = p .then-row;
-        then-row = p .last-row;
-        signed = gsr-kept m v (p .then) ∙ p .signed;
-        prepared = set-same (p .along) (R + 1) v (p .then) (omega (arith, few));
-      })
+      let v = bitXor (p .from) (signOf t (σ .node)) in (
+        setting m (R + 1) v (p .then),
+        step-at (hardened t) Undisturbed m (prepare R (p .from) (signOf t (σ .node)) (p .then)) (p .row),
+        record {
+          along = set-along (p .along) (R + 1) v (p .then) (omega arith);
+          inside = p .inside;
+          from = p .from;
+          then = p .last;
+          row = p .then-row;
+          then-row = p .last-row;
+          signed = gsr-kept m v (p .then) ∙ p .signed;
+          prepared = set-same (p .along) (R + 1) v (p .then) (omega (arith, few));
+        },
+      )
 
   -- ---- the groups of extra nodes
 
-  module _ {σ : Machine} {n : ℕ} {w : Bool} (way : Way t n w σ) where
+  module _ {n : ℕ} (b : BranchAt t n) where
     abbrev e : ℕ
     e = groupAt s n
 
-    abbrev side : Bool → ℕ
-    side b = cond b (way .yea) (way .nay)
+    pub branch-in : NodeIn R (s .nodes) (branch (b .comparison) (b .left) (b .right) (b .yea) (b .nay))
+    branch-in = rw (b .is-branch) at (ok .in-order .node-in n (b .here))
 
-    way-in : NodeIn R (s .nodes) (branch (way .comparison) (way .left) (way .right) (way .yea) (way .nay))
-    way-in = rw (way .is-branch) at (ok .in-order .node-in n (way .here))
+    -- the branch's own row, and those of its group
+    pub branch-row : hardenedGraph t n ≡ branch (b .comparison) (b .left) (b .right) e (e + 1)
+    branch-row = own-row t n (b .here) ∙ rw (b .is-branch)
 
-    -- the rows of a branch's group
-    pub branch-row : (j : ℕ) → j < 7 → hardenedGraph t (e + j) ≡ getD (branchGroup R (s .nodes + 1) e (signOf t n) (way .comparison) (way .left) (way .right) (way .yea) (way .nay) (signOf t (way .yea)) (signOf t (way .nay))) j stop
-    branch-row j h =
-        let inside : j < extraOf s n = rw (way .is-branch) h in
-        rw (way .is-branch) at (extra-row t n j (way .here) inside)
+    group-row : (j : ℕ) → j < 7 → hardenedGraph t (e + j) ≡ getD (branchGroup R (s .nodes + 1) e (signOf t n) (b .comparison) (b .left) (b .right) (b .yea) (b .nay) (signOf t (b .yea)) (signOf t (b .nay))) j stop
+    group-row j h =
+        let inside : j < extraOf s n = rw (b .is-branch) h in
+        rw (b .is-branch) at (extra-row t n j (b .here) inside)
 
-    pub prepare-row : (b : Bool) → hardenedGraph t (e + cond b 0 1) ≡ prepare R (signOf t n) (signOf t (side b)) (e + 2)
-    prepare-row true = branch-row 0 (omega arith)
-    prepare-row false = branch-row 1 (omega arith)
+    pub prepare-row : (w : Bool) → hardenedGraph t (e + cond w 0 1) ≡ prepare R (signOf t n) (signOf t (side b w)) (e + 2)
+    prepare-row true = group-row 0 (omega arith)
+    prepare-row false = group-row 1 (omega arith)
 
-    pub update-row : (b : Bool) → hardenedGraph t (cond b (e + 3) (e + 5)) ≡ update R (cond b (e + 4) (e + 6))
-    update-row true = branch-row 3 (omega arith)
-    update-row false = branch-row 5 (omega arith)
+    pub doubled-row : hardenedGraph t (e + 2) ≡ branch (b .comparison) (b .left) (b .right) (e + 3) (e + 5)
+    doubled-row = group-row 2 (omega arith)
 
-    pub check-row : (b : Bool) → hardenedGraph t (cond b (e + 4) (e + 6)) ≡ checkFor t (side b)
-    check-row true = branch-row 4 (omega arith)
-    check-row false = branch-row 6 (omega arith)
+    pub update-row : (w : Bool) → hardenedGraph t (cond w (e + 3) (e + 5)) ≡ update R (cond w (e + 4) (e + 6))
+    update-row true = group-row 3 (omega arith)
+    update-row false = group-row 5 (omega arith)
 
-    pub doubled-row : hardenedGraph t (e + 2) ≡ branch (way .comparison) (way .left) (way .right) (e + 3) (e + 5)
-    doubled-row = branch-row 2 (omega arith)
+    pub check-row : (w : Bool) → hardenedGraph t (cond w (e + 4) (e + 6)) ≡ checkFor t (side b w)
+    check-row true = group-row 4 (omega arith)
+    check-row false = group-row 6 (omega arith)
 
-    -- a test beside the source goes the same way
-    pub way-along : {m : Machine} → Along t σ m → compare (way .comparison) (get m (way .left)) (operandOf m (way .right)) ≡ w
-    way-along along = test-along along (way .comparison) (way .left) (way .right) (way-in .1) (way-in .2) ∙ way .outcome
+  -- a test beside the source goes the source's way
+  pub way-along : {σ m : Machine} {n : ℕ} {w : Bool} (way : Way t n w σ) → Along t σ m
+      → compare (way .from .comparison) (get m (way .from .left)) (operandOf m (way .from .right)) ≡ w
+  way-along way along =
+      let inside = branch-in (way .from) in
+      test-along along (way .from .comparison) (way .from .left) (way .from .right) (inside .1) (inside .2) ∙ way .outcome
+
+  -- the way that a machine at a branch is about to leave it
+  abbrev pub way-from : (σ : Machine) {n : ℕ} (b : BranchAt t n) (w : Bool) → compare (b .comparison) (get σ (b .left)) (operandOf σ (b .right)) ≡ w → Way t n w (branchTo σ (side b w))
+  way-from σ b w h = record { from = b; outcome = ap (compare (b .comparison) (get σ (b .left))) (branch-operand σ (side b w) (b .right)) ∙ h; target = refl }
+
+  -- after the first test RTS is prepared for the target that it chose
+  pub prepare-goes : (m : Machine) {n : ℕ} (b : BranchAt t n) (w : Bool) → m .node ≡ groupAt s n + cond w 0 1
+      → HardenedStep t m (at (setting m (R + 1) (bitXor (signOf t n) (signOf t (side b w))) (groupAt s n + 2)) going)
+  prepare-goes m {n} b w place =
+      step-at (hardened t) Undisturbed m (prepare R (signOf t n) (signOf t (side b w)) (groupAt s n + 2)) (ap (hardenedGraph t) place ∙ prepare-row b w)
+
+  -- the doubled test goes the source's way
+  pub double-goes : {σ m : Machine} {n : ℕ} {w : Bool} → Way t n w σ → Along t σ m → m .node ≡ groupAt s n + 2
+      → HardenedStep t m (at (branchTo m (cond w (groupAt s n + 3) (groupAt s n + 5))) going)
+  double-goes {σ} {m} {n} {w} way along place =
+      let b = way .from in
+      let e = groupAt s n in
+      step-at (hardened t) Undisturbed m (branch (b .comparison) (b .left) (b .right) (e + 3) (e + 5)) (ap (hardenedGraph t) place ∙ doubled-row b)
+      ∙ rw (way-along way along)
 
   pub tested-step : {σ m : Machine} → Tested t σ m → Onward t m (Doubling t σ)
   tested-step {σ} {m} q =
       let n = q .n in
-      let v = bitXor (signOf t n) (signOf t (σ .node)) in
-      let row : hardenedGraph t (m .node) ≡ prepare R (signOf t n) (signOf t (σ .node)) (groupAt s n + 2) =
-        ap (hardenedGraph t) (q .place) ∙ prepare-row (q .way) (q .w) ∙ ap (λ k. prepare R (signOf t n) (signOf t k) (groupAt s n + 2)) (sym (q .way .target)) in
-      ( setting m (R + 1) v (groupAt s n + 2)
-      , step-at (hardened t) Undisturbed m (prepare R (signOf t n) (signOf t (σ .node)) (groupAt s n + 2)) row
-      , record {
-        along = set-along (q .along) (R + 1) v (groupAt s n + 2) (omega arith);
-        inside = q .inside;
-        n = n;
-        w = q .w;
-        way = q .way;
-        place = refl;
-        signed = gsr-kept m v (groupAt s n + 2) ∙ q .signed;
-        prepared = set-same (q .along) (R + 1) v (groupAt s n + 2) (omega (arith, few));
-      })
+      let b = q .way .from in
+      let v = bitXor (signOf t n) (signOf t (side b (q .w))) in (
+        setting m (R + 1) v (groupAt s n + 2),
+        prepare-goes m b (q .w) (q .place),
+        record {
+          along = set-along (q .along) (R + 1) v (groupAt s n + 2) (omega arith);
+          inside = q .inside;
+          n = n;
+          w = q .w;
+          way = q .way;
+          place = refl;
+          signed = gsr-kept m v (groupAt s n + 2) ∙ q .signed;
+          prepared = set-same (q .along) (R + 1) v (groupAt s n + 2) (omega (arith, few)) ∙ ap (λ k. bitXor (signOf t n) (signOf t k)) (sym (q .way .target));
+        },
+      )
 
   pub doubling-step : {σ m : Machine} → Doubling t σ m → Onward t m (Updating t σ)
   doubling-step {σ} {m} d =
       let e = groupAt s (d .n) in
-      let w = d .way in
-      ( branchTo m (cond (d .w) (e + 3) (e + 5))
-      , step-at (hardened t) Undisturbed m (branch (w .comparison) (w .left) (w .right) (e + 3) (e + 5)) (ap (hardenedGraph t) (d .place) ∙ doubled-row w)
-        ∙ rw (way-along w (d .along))
-      , record {
-        along = branch-along (d .along) (cond (d .w) (e + 3) (e + 5));
-        inside = d .inside;
-        from = signOf t (d .n);
-        then = cond (d .w) (e + 4) (e + 6);
-        row = update-row w (d .w);
-        then-row = check-row w (d .w) ∙ ap (checkFor t) (sym (w .target));
-        signed = d .signed;
-        prepared = d .prepared;
-      })
+      let b = d .way .from in (
+        branchTo m (cond (d .w) (e + 3) (e + 5)),
+        double-goes (d .way) (d .along) (d .place),
+        record {
+          along = branch-along (d .along) (cond (d .w) (e + 3) (e + 5));
+          inside = d .inside;
+          from = signOf t (d .n);
+          then = cond (d .w) (e + 4) (e + 6);
+          row = update-row b (d .w);
+          then-row = check-row b (d .w) ∙ ap (checkFor t) (sym (d .way .target));
+          signed = d .signed;
+          prepared = d .prepared;
+        },
+      )
 
   -- ---- from a source node
 
@@ -321,8 +362,10 @@ module _ (t : Trial) (ok : Accepted (t .source)) where
       to : (d v v′ : ℕ) → v ≡ v′ → d < R → take R (set (m .registers) d v) ≡ take R (set (σ .registers) d v′)
       to d v v′ e h =
           take-set-lt R (m .registers) d v h ∙ ap₂ (λ l x. set l d x) (along .registers) e ∙ sym (take-set-lt R (σ .registers) d v′ h)
+
       full : (d v : ℕ) → length (set (m .registers) d v) ≡ 64
       full d v = length-set (m .registers) d v ∙ along .full
+
       by : (action : Action) → ActionIn R action → Along t (act (t .inputs) action next σ) (act (t .inputs) action next′ m)
       by (const d k) h = record { registers = to d k k refl h; reads = along .reads; events = along .events; full = full d k }
       by (op o d a b) h =
@@ -416,18 +459,25 @@ module _ (t : Trial) (ok : Accepted (t .source)) where
       where
         inside : ActionIn R action × (l < s .nodes)
         inside = rw is at (ok .in-order .node-in n (here .inside))
+
         l′ : ℕ
         l′ = cond b (groupAt s n) l
+
         row : hardenedGraph t (m .node) ≡ go action l′
         row = ap (hardenedGraph t) (here .node) ∙ own-row t n (here .inside) ∙ rw (c, is)
+
         σ′ : Machine
         σ′ = act (t .inputs) action l σ
+
         m′ : Machine
         m′ = act (t .inputs) action l′ m
+
         source : (o : Option Outcome) → stopped (t .room) (go action l) σ ≡ o → SourceStep t σ (unless o σ (at σ′ going))
         source o e = step-at (plain t) Undisturbed σ (go action l) is ∙ ap (λ o. unless o σ (at σ′ going)) e
+
         hard : (o : Option Outcome) → stopped (t .room) (go action l) σ ≡ o → HardenedStep t m (unless o m (at m′ going))
         hard o e = step-at (hardened t) Undisturbed m (go action l′) row ∙ ap (λ o. unless o m (at m′ going)) (stopped-alike along action l l′ ∙ e)
+
         by : (o : Option Outcome) → stopped (t .room) (go action l) σ ≡ o → Departs t σ m
         by (some o) e = stops o (source (some o) e) (hard (some o) e) (stopped-stopping σ action l o e)
         by none e =
@@ -439,22 +489,21 @@ module _ (t : Trial) (ok : Accepted (t .source)) where
     unfolding crossing
     part c a yea nay b is w h =
         let inside : NodeIn R (s .nodes) (branch c a b yea nay) = rw is at (ok .in-order .node-in n (here .inside)) in
-        let row : hardenedGraph t (m .node) ≡ branch c a b (groupAt s n) (groupAt s n + 1) = ap (hardenedGraph t) (here .node) ∙ own-row t n (here .inside) ∙ rw is in
+        let from : BranchAt t n = record { here = here .inside; comparison = c; left = a; right = b; yea = yea; nay = nay; is-branch = is } in
+        let row : hardenedGraph t (m .node) ≡ branch c a b (groupAt s n) (groupAt s n + 1) = ap (hardenedGraph t) (here .node) ∙ branch-row from in
         let target : ℕ = cond w yea nay in
         let target< : target < s .nodes = elim w as (λ w. cond w yea nay < s .nodes) [ true ↦ inside .3 | false ↦ inside .4 ] in
-        let place : cond w (groupAt s n) (groupAt s n + 1) ≡ groupAt s n + cond w 0 1 =
-          elim w as (λ w. cond w (groupAt s n) (groupAt s n + 1) ≡ groupAt s n + cond w 0 1) [ true ↦ sym (add-zero (groupAt s n)) | false ↦ refl ] in
         tests (branchTo σ target) (branchTo m (cond w (groupAt s n) (groupAt s n + 1)))
         (step-at (plain t) Undisturbed σ (branch c a b yea nay) is ∙ rw h)
         (step-at (hardened t) Undisturbed m (branch c a b (groupAt s n) (groupAt s n + 1)) row ∙ rw (test-along along c a b (inside .1) (inside .2) ∙ h))
         (record { one-step = refl; some-branches = refl; crossed = rw is })
         (record {
-          along = record { registers = along .registers; reads = along .reads; events = along .events; full = along .full };
+          along = both-along along target (cond w (groupAt s n) (groupAt s n + 1));
           inside = target<;
           n = n;
           w = w;
-          way = record { here = here .inside; comparison = c; left = a; right = b; yea = yea; nay = nay; is-branch = is; outcome = ap (compare c (get σ a)) (branch-operand σ target b) ∙ h; target = refl };
-          place = place;
+          way = way-from σ from w h;
+          place = fork (groupAt s n) w;
           signed = here .signed;
         })
 

@@ -96,7 +96,7 @@ module _ (s : Setting) (fault : Fault) where
           let on : p .status ≡ going = going-before p e in
           let same : p ≡ at (p .machine) going = ap (at (p .machine)) on in
           let one : next s fault p .machine .steps ≡ p .machine .steps + 1 =
-            rw same (next-counted (p .machine) .stepped (rw same at e)) in
+          rw same (next-counted (p .machine) .stepped (rw same at e)) in
           omega (arith, ih on, one, add-suc (m .steps) rounds)
 
   pub branches-next : (p : Progress) → p .machine .branches ≤ next s fault p .machine .branches
@@ -149,9 +149,9 @@ module _ (s : Setting) (place : ℕ) where
           → next s (Inverted place) (after s (Inverted place) p rounds) ≡ next s Undisturbed q
       by q h ih =
           let quiet : q .status ≡ going → isBranch (s .graph (q .machine .node)) ≡ true → eqb place (q .machine .branches) ≡ false =
-            λ on b.
-            let one : next s Undisturbed q .machine .branches ≡ q .machine .branches + 1 = rw (ap (at (q .machine)) on) (branch-counted (q .machine) b) in
-            ne-eqb place (q .machine .branches) (λ e. omega arith) in
+          λ on b.
+          let one : next s Undisturbed q .machine .branches ≡ q .machine .branches + 1 = rw (ap (at (q .machine)) on) (branch-counted (q .machine) b) in
+          ne-eqb place (q .machine .branches) (λ e. omega arith) in
           let less : q .machine .branches ≤ next s Undisturbed q .machine .branches = branches-next s Undisturbed q in
           ap (next s (Inverted place)) (ih (omega arith)) ∙ next-unmoved q quiet
 
@@ -166,9 +166,10 @@ module _ (s : Setting) (place : ℕ) where
         where
           by : (q : Progress) → (after s (Inverted place) p r ≡ q) × (place < q .machine .branches)
               → (next s (Inverted place) (after s (Inverted place) p r) ≡ next s Undisturbed q) × (place < next s Undisturbed q .machine .branches)
-          by q (same, l) =
-              ( ap (next s (Inverted place)) same ∙ next-unmoved q (λ on b. ne-eqb place (q .machine .branches) (λ e. omega arith))
-              , omega (arith, branches-next s Undisturbed q))
+          by q (same, l) = (
+            ap (next s (Inverted place)) same ∙ next-unmoved q (λ on b. ne-eqb place (q .machine .branches) (λ e. omega arith)),
+            omega (arith, branches-next s Undisturbed q),
+          )
 
 -- in the round of its place the branch goes to the other target
 pub inverted-step : (s : Setting) (m : Machine) (c a then else : ℕ) (b : Operand) (w : Bool) → s .graph (m .node) ≡ branch c a b then else

@@ -173,3 +173,12 @@ module _ (t : Trial) where
       ∙ ap (λ i. getD (hardenedRows s) i stop) place
       ∙ past-source (suc (suc (extraBelow s n + j)))
       ∙ group-row s n (s .nodes) j h g
+
+-- the groups stand behind the source's rows, the catch, and one another
+pub group-order : (s : Source) (n k : ℕ) → n < k → groupAt s n + extraOf s n ≤ groupAt s k
+unfolding groupAt
+group-order s n k h = omega (arith, extra-below s n k h)
+
+pub group-above : (s : Source) (n : ℕ) → s .nodes + 2 ≤ groupAt s n
+unfolding groupAt
+group-above s n = omega arith
