@@ -12,6 +12,11 @@ pub data Path (graph : ℕ → Node) (entry : ℕ) : ℕ → Type 0 where
   empty : Path graph entry entry
   along : {m n : ℕ} → Path graph entry m → List·Memᴰ n (targets (graph m)) → Path graph entry n
 
+-- a path of so many edges from the entry
+pub data PathIn (graph : ℕ → Node) (entry : ℕ) : ℕ → ℕ → Type 0 where
+  start : PathIn graph entry zero entry
+  onward : {edges m n : ℕ} → PathIn graph entry edges m → List·Memᴰ n (targets (graph m)) → PathIn graph entry (suc edges) n
+
 -- marks, one a node
 abbrev pub Marks : Type 0
 Marks = List Bool

@@ -1,0 +1,3 @@
+-- Laws that every crate above uses.
+pub mod Puts
+pub mod Arms
