@@ -4,18 +4,18 @@
 use mathlib.Core.Path.{_≡_, refl, sym, ap, _∙_}
 use mathlib.Core.Logic.{_⊎_, inl, inr}
 use mathlib.Core.Bool.{Bool, true, false, cond, _||_, or-true}
-use mathlib.Core.List.{List, [], _∷_}
+use mathlib.Core.List.{List, [], _∷_, List·Memᴰ, List·Memᴰ·head, List·Memᴰ·tail}
 use Prim.Native.Nat.{ℕ, zero, suc, _+_, _≤_, _<_}
 use native.Mathlib.Nat.{eq-or-lt-of-le, le-of-suc-le-suc, not-suc-le-zero}
-use native.Mathlib.Decide.{ℕ-discrete, decLt}
+use native.Mathlib.Decide.{decLt}
 use native.Mathlib.Numerals.{add-one}
 use native.Mathlib.Omega.{arith}
-use lib.ListN.{length, getD, set, replicate, getD-replicate, List·getD-eq-default, length-replicate}
-use lib.Seq.{getD-set-other}
 use lib.Dec.{eqb, ltb, leb}
-use borrow.Author.Tests.{eqb-true, eqb-false, eq-eqb, lt-ltb, le-ltb, leb-false, ltb-true, ltb-false}
+use borrow.Author.Tests.{eq-eqb, lt-ltb, le-ltb, leb-false}
 use Rattle.graph.specs.Nodes.{Node, go, branch, ret, stop, Action, Operand, targets}
-use Rattle.graph.specs.Paths.{Marks, marked, markAll, followed, reachedIn, reached}
+use Rattle.graph.specs.Paths.{PathIn, start, onward}
+use Rattle.graph.specs.Accepted.{SourceGraph}
+use Rattle.graph.proofs.Reached.{targets-inside}
 use Rattle.harden.specs.Blocks.{among, edgesInto, aimsAt, branchTo, leader, predecessor, headIn, blockHead, rank, signature}
 use Rattle.harden.specs.Hardened.{Source, isLeader, sign}
 use Rattle.swift.specs.Demand.{Distinct}
@@ -57,60 +57,13 @@ module _ (graph : ℕ → Node) (n : ℕ) where
           let none : edges k ≤ 0 = omega (arith, counted m k l) in
           rw (le-ltb 0 (edges k) none) (ih l some (omega arith))
 
--- ---- what is reached within so many edges
-
-module _ (n : ℕ) where
-  marked-by-all : (ns : List ℕ) (marks : Marks) → marked (markAll ns marks) n ≡ true → (marked marks n ≡ true) ⊎ (0 < among ns n)
-  marked-by-all [] marks h = inl h
-  marked-by-all (x ∷ ns) marks h = by (ℕ-discrete x n) (marked-by-all ns (set marks x true) h)
-    where
-      by : Dec (x ≡ n) → (marked (set marks x true) n ≡ true) ⊎ (0 < among ns n) → (marked marks n ≡ true) ⊎ (0 < cond (eqb x n) 1 0 + among ns n)
-      by (yes e) r = inr (rw (eq-eqb x n e) (omega arith))
-      by (no d) (inl m) = inl (sym (getD-set-other marks x n true false (λ e. d (sym e))) ∙ m)
-      by (no d) (inr a) = inr (omega arith)
-
-  abbrev ComesFrom : (ℕ → Node) → Marks → ℕ → Type 0
-  ComesFrom graph marks k = (marked marks n ≡ true) ⊎ ((m : ℕ) × (m < k) × (marked marks m ≡ true) × (0 < among (targets (graph m)) n))
-
-  later : (graph : ℕ → Node) (marks : Marks) (k : ℕ) → ComesFrom graph marks k → ComesFrom graph marks (suc k)
-  later graph marks k (inl h) = inl h
-  later graph marks k (inr (m, l, h, a)) = inr (m, omega arith, h, a)
-
-  followed-from : (graph : ℕ → Node) (marks : Marks) (k : ℕ) → marked (followed graph marks k) n ≡ true → ComesFrom graph marks k
-  unfolding followed
-  followed-from graph marks zero h = inl h
-  followed-from graph marks (suc k) h = by (marked marks k) refl h (followed-from graph marks k)
-    where
-      by : (b : Bool) → marked marks k ≡ b → marked (cond b (markAll (targets (graph k)) (followed graph marks k)) (followed graph marks k)) n ≡ true
-          → (marked (followed graph marks k) n ≡ true → ComesFrom graph marks k) → ComesFrom graph marks (suc k)
-      by false e r ih = later graph marks k (ih r)
-      by true e r ih = more (marked-by-all (targets (graph k)) (followed graph marks k) r)
-        where
-          more : (marked (followed graph marks k) n ≡ true) ⊎ (0 < among (targets (graph k)) n) → ComesFrom graph marks (suc k)
-          more (inl m) = later graph marks k (ih m)
-          more (inr a) = inr (k, omega arith, e, a)
+mem-among : {n : ℕ} {ns : List ℕ} → List·Memᴰ n ns → 0 < among ns n
+mem-among {n} (List·Memᴰ·head {x = x} e) = rw (eq-eqb x n (sym e)) (omega arith)
+mem-among (List·Memᴰ·tail mem) = omega (arith, mem-among mem)
 
 -- ---- heads of blocks
 
 module _ (graph : ℕ → Node) (nodes entry : ℕ) where
-  abbrev within : ℕ → ℕ → Type 0
-  within k n = marked (reachedIn graph nodes entry k) n ≡ true
-
-  within-none : (n : ℕ) → within 0 n → n ≡ entry
-  unfolding reachedIn
-  within-none n h = by (ℕ-discrete n entry)
-    where
-      unmarked : (k : ℕ) → getD (replicate k false) n false ≡ false
-      unmarked k = elim (decLt n k) [ yes l ↦ getD-replicate k n false false l | no d ↦ List·getD-eq-default (replicate k false) false (rw length-replicate (omega arith)) ]
-
-      by : Dec (n ≡ entry) → n ≡ entry
-      by (yes e) = e
-      by (no d) = cc (sym (getD-set-other (replicate nodes false) entry n true false d), unmarked nodes)
-
-  within-more : (k n : ℕ) → within (suc k) n → ComesFrom n graph (reachedIn graph nodes entry k) nodes
-  unfolding reachedIn
-  within-more k n h = followed-from n graph (reachedIn graph nodes entry k) nodes h
-
   entry-leader : leader graph nodes entry entry ≡ true
   unfolding leader
   entry-leader = rw (eq-eqb entry entry refl)
@@ -131,54 +84,53 @@ module _ (graph : ℕ → Node) (nodes entry : ℕ) where
       let rest = or-none (branchTo graph nodes n) (leb 2 (edgesInto graph nodes n)) (or-none (eqb n entry) (branchTo graph nodes n || leb 2 (edgesInto graph nodes n)) h .1) in
       predecessor-is graph n m nodes l a (leb-false 2 (edgesInto graph nodes n) (rest .1))
 
-  -- more fuel than edges finds the same head
-  steady : (k f n : ℕ) → k ≤ f → within k n → headIn graph nodes entry f n ≡ headIn graph nodes entry k n
-  steady zero f n h r =
-      let e : n ≡ entry = within-none n r in
-      let l : leader graph nodes entry n ≡ true = rw e entry-leader in
-      head-leader f n l ∙ sym (head-leader 0 n l)
-  steady (suc k) zero n h r = absurd (not-suc-le-zero h)
-  steady (suc k) (suc f) n h r = by (leader graph nodes entry n) refl (within-more k n r) (steady k)
-    where
-      by : (b : Bool) → leader graph nodes entry n ≡ b → ComesFrom n graph (reachedIn graph nodes entry k) nodes
-          → ((f n : ℕ) → k ≤ f → within k n → headIn graph nodes entry f n ≡ headIn graph nodes entry k n)
-          → headIn graph nodes entry (suc f) n ≡ headIn graph nodes entry (suc k) n
-      by true e c ih = head-leader (suc f) n e ∙ sym (head-leader (suc k) n e)
-      by false e (inl w) ih = ih (suc f) n (omega arith) w ∙ sym (ih (suc k) n (omega arith) w)
-      by false e (inr (m, l, w, a)) ih =
-          head-step f n e
-          ∙ ap (headIn graph nodes entry f) (came-from n m e l a)
-          ∙ ih f m (le-of-suc-le-suc h) w
-          ∙ sym (ap (headIn graph nodes entry k) (came-from n m e l a))
-          ∙ sym (head-step k n e)
+  module _ (entry-in : entry < nodes) (targets-in : (m n : ℕ) → m < nodes → List·Memᴰ n (targets (graph m)) → n < nodes) where
+    path-in : {edges n : ℕ} → PathIn graph entry edges n → n < nodes
+    path-in start = entry-in
+    path-in (onward {m = m} {n = n} path among) = targets-in m n (path-in path) among
 
-  -- the node before one that is no leader is reached earlier
-  earlier : (n m k : ℕ) → leader graph nodes entry n ≡ false → predecessor graph nodes n ≡ m → within k n → (j : ℕ) × (j < k) × within j m
-  earlier n m zero h p r =
-      let e : n ≡ entry = within-none n r in
-      let z : _≡_ {A = ℕ} 0 1 = cc (rw e at h, entry-leader) in
-      absurd (omega arith)
-  earlier n m (suc k) h p r = by (within-more k n r) (earlier n m k h p)
-    where
-      by : ComesFrom n graph (reachedIn graph nodes entry k) nodes → (within k n → (j : ℕ) × (j < k) × within j m) → (j : ℕ) × (j < suc k) × within j m
-      by (inl w) ih = let (j, l, w′) = ih w in (j, omega arith, w′)
-      by (inr (m′, l, w, a)) ih = (k, omega arith, rw (sym (came-from n m′ h l a) ∙ p) at w)
+    edge-from : (n m : ℕ) → leader graph nodes entry n ≡ false → m < nodes → List·Memᴰ n (targets (graph m)) → predecessor graph nodes n ≡ m
+    edge-from n m h l mem = came-from n m h l (mem-among mem)
 
-  pub same-block : (n m : ℕ) → leader graph nodes entry n ≡ false → m < nodes → 0 < among (targets (graph m)) n
-      → marked (reached graph nodes entry) n ≡ true → blockHead graph nodes entry n ≡ blockHead graph nodes entry m
-  unfolding blockHead reached
-  same-block n m h l a r = by nodes refl
-    where
-      by : (k : ℕ) → nodes ≡ k → headIn graph nodes entry nodes n ≡ headIn graph nodes entry nodes m
-      by zero e = absurd (omega arith)
-      by (suc k) e =
-          let p : predecessor graph nodes n ≡ m = came-from n m h l a in
-          let (j, j<, w) = earlier n m nodes h p r in
-          ap (λ f. headIn graph nodes entry f n) e
-          ∙ head-step k n h
-          ∙ ap (headIn graph nodes entry k) p
-          ∙ steady j k m (omega arith) w
-          ∙ sym (steady j nodes m (omega arith) w)
+    -- more fuel than edges finds the same head
+    steady : {edges n : ℕ} → PathIn graph entry edges n → (f : ℕ) → edges ≤ f → headIn graph nodes entry f n ≡ headIn graph nodes entry edges n
+    steady start f h = head-leader f entry entry-leader ∙ sym (head-leader 0 entry entry-leader)
+    steady (onward path among) zero h = absurd (not-suc-le-zero h)
+    steady (onward {edges = k} {m = m} {n = n} path among) (suc f) h = by (leader graph nodes entry n) refl (steady path f (le-of-suc-le-suc h))
+      where
+        by : (b : Bool) → leader graph nodes entry n ≡ b → headIn graph nodes entry f m ≡ headIn graph nodes entry k m
+            → headIn graph nodes entry (suc f) n ≡ headIn graph nodes entry (suc k) n
+        by true e ih = head-leader (suc f) n e ∙ sym (head-leader (suc k) n e)
+        by false e ih =
+            let p : predecessor graph nodes n ≡ m = edge-from n m e (path-in path) among in
+            head-step f n e
+            ∙ ap (headIn graph nodes entry f) p
+            ∙ ih
+            ∙ sym (ap (headIn graph nodes entry k) p)
+            ∙ sym (head-step k n e)
+
+    -- the node before one that is no leader is reached by one edge less
+    earlier : {edges n : ℕ} (m : ℕ) → leader graph nodes entry n ≡ false → predecessor graph nodes n ≡ m → PathIn graph entry edges n
+        → (fewer : ℕ) × (fewer < edges) × PathIn graph entry fewer m
+    earlier m h p start = let z : _≡_ {A = ℕ} 0 1 = cc entry-leader in absurd (omega arith)
+    earlier m h p (onward {edges = k} {m = m′} {n = n} path among) =
+        (k, omega arith, rw (sym (edge-from n m′ h (path-in path) among) ∙ p) at path)
+
+    pub same-block : (n m : ℕ) → leader graph nodes entry n ≡ false → m < nodes → List·Memᴰ n (targets (graph m))
+        → (edges : ℕ) × (edges ≤ nodes) × PathIn graph entry edges n → blockHead graph nodes entry n ≡ blockHead graph nodes entry m
+    unfolding blockHead
+    same-block n m h l among (edges, few, path) = by nodes refl
+      where
+        by : (k : ℕ) → nodes ≡ k → headIn graph nodes entry nodes n ≡ headIn graph nodes entry nodes m
+        by zero e = absurd (omega arith)
+        by (suc k) e =
+            let p : predecessor graph nodes n ≡ m = edge-from n m h l among in
+            let (fewer, fewer<, before) = earlier m h p path in
+            ap (λ f. headIn graph nodes entry f n) e
+            ∙ head-step k n h
+            ∙ ap (headIn graph nodes entry k) p
+            ∙ steady before k (omega arith)
+            ∙ sym (steady before nodes (omega arith))
 
   -- ---- ranks
 
@@ -235,12 +187,14 @@ module _ (graph : ℕ → Node) (nodes entry : ℕ) where
 
 module _ (s : Source) where
   -- a node that is no leader has the signature of the node before it
-  pub same-sign : (m n : ℕ) (action : Action) → s .graph m ≡ go action n → m < s .nodes → isLeader s n ≡ false
-      → marked (reached (s .graph) (s .nodes) (s .entry)) n ≡ true → sign s n ≡ sign s m
+  pub same-sign : SourceGraph (s .registers) (s .nodes) (s .entry) (s .graph) → (m n : ℕ) (action : Action) → s .graph m ≡ go action n → m < s .nodes → isLeader s n ≡ false
+      → (edges : ℕ) × (edges ≤ s .nodes) × PathIn (s .graph) (s .entry) edges n → sign s n ≡ sign s m
   unfolding isLeader sign signature
-  same-sign m n action e l h r =
-      let one : 0 < among (targets (s .graph m)) n = rw (e, eq-eqb n n refl) (omega arith) in
-      ap (λ b. s .plan (rank (s .graph) (s .nodes) (s .entry) b)) (same-block (s .graph) (s .nodes) (s .entry) n m h l one r)
+  same-sign ok m n action e l h path =
+      let edge : List·Memᴰ n (targets (s .graph m)) = rw e (List·Memᴰ·head refl) in
+      let within : (k n : ℕ) → k < s .nodes → List·Memᴰ n (targets (s .graph k)) → n < s .nodes =
+      λ k n k<. targets-inside (s .registers) (s .nodes) (s .graph k) (ok .node-in k k<) n in
+      ap (λ b. s .plan (rank (s .graph) (s .nodes) (s .entry) b)) (same-block (s .graph) (s .nodes) (s .entry) (ok .entry-in) within n m h l edge path)
 
   leader-sign : (n : ℕ) → isLeader s n ≡ true → sign s n ≡ s .plan (rank (s .graph) (s .nodes) (s .entry) n)
   unfolding isLeader sign signature blockHead

@@ -14,7 +14,7 @@ use lib.Bits.{bitXor}
 use lib.Dec.{eqb, leb}
 use borrow.Author.Tests.{eq-eqb}
 use Rattle.graph.specs.Nodes.{Node, go, branch, ret, stop, Action, const, op, input, output, Operand, register, constant}
-use Rattle.graph.specs.Paths.{marked, reached}
+use Rattle.graph.specs.Paths.{PathIn}
 use Rattle.graph.specs.Accepted.{ActionIn, OperandIn, NodeIn, NoCatch, SourceGraph}
 use Rattle.harden.specs.Hardened.{Source, isLeader, sign, crossing, groupAt, prepare, update, check, branchGroup, crossingGroup}
 use Rattle.bench.specs.Words.{operate, compare}
@@ -29,10 +29,11 @@ use Rattle.swift.proofs.Rows.{own-row, extra-row, extraOf, groupFor}
 use Rattle.swift.proofs.Blocks.{same-sign}
 use Rattle.swift.proofs.Rounds.{step-at}
 
--- what the theorems suppose of a source: accepted, every node reached, and a plan with distinct signatures
+-- what the theorems suppose of a source: accepted, so that a path of no more than N edges reaches each node, and a plan with
+-- distinct signatures
 pub record Accepted (s : Source) : Type 0 where
   pub in-order : SourceGraph (s .registers) (s .nodes) (s .entry) (s .graph)
-  pub all-reached : (n : ℕ) → n < s .nodes → marked (reached (s .graph) (s .nodes) (s .entry)) n ≡ true
+  pub path-short : (n : ℕ) → n < s .nodes → (edges : ℕ) × (edges ≤ s .nodes) × PathIn (s .graph) (s .entry) edges n
   pub distinct : Distinct (s .plan)
 
 -- the signature registers
@@ -437,7 +438,7 @@ module _ (t : Trial) (ok : Accepted (t .source)) where
           along = to;
           inside = rw at-l l<;
           node = at-l′ ∙ sym at-l;
-          signed = signed ∙ sym (same-sign s n l action is (here .inside) inner (ok .all-reached l l<)) ∙ ap (signOf t) (sym at-l);
+          signed = signed ∙ sym (same-sign s (ok .in-order) n l action is (here .inside) inner (ok .path-short l l<)) ∙ ap (signOf t) (sym at-l);
         })
     arrive action l is l< true c σ′ m′ source hard moved to at-l at-l′ signed =
         let e = groupAt s n in
