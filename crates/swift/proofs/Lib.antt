@@ -7,3 +7,4 @@ pub mod Roles
 pub mod Following
 pub mod Standing
 pub mod Inverting
+pub mod Budgets

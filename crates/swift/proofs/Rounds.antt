@@ -5,7 +5,7 @@ use mathlib.Core.Bool.{Bool, true, false, cond, not}
 use mathlib.Core.Option.{Option, none, some}
 use mathlib.Core.Logic.{_⊎_, inl, inr}
 use Prim.Native.Nat.{ℕ, zero, suc, _+_, _≤_, _<_}
-use mathlib.Core.List.{List}
+use mathlib.Core.List.{List, [], _∷_, _++_, append-assoc, append-nil}
 use native.Mathlib.Nat.{add-zero, add-suc}
 use native.Mathlib.Numerals.{add-one}
 use native.Mathlib.Omega.{arith}
@@ -50,31 +50,74 @@ module _ (s : Setting) (fault : Fault) where
 
 -- ---- counts
 
--- how one round moves the counts: a round is a step unless the run ends without one
+-- how the counts and the events move in a round
+pub record Grown (m n : Machine) : Type 0 where
+  pub steps-more : m .steps ≤ n .steps
+  pub branches-more : m .branches ≤ n .branches
+  pub branches-one : n .branches ≤ m .branches + 1
+  pub events-more : (more : List ℕ) × (n .events ≡ m .events ++ more)
+
+pub still : (m : Machine) → Grown m m
+still m = record { steps-more = omega arith; branches-more = omega arith; branches-one = omega arith; events-more = ([], sym (append-nil (m .events))) }
+
+-- a round that leaves the run going is a step
 pub record Counted (m : Machine) (p : Progress) : Type 0 where
   pub stepped : p .status ≡ going → p .machine .steps ≡ m .steps + 1
-  pub branches-up : m .branches ≤ p .machine .branches
-  pub branches-one : p .machine .branches ≤ m .branches + 1
+  pub grown : Grown m (p .machine)
 
 module _ (inputs : List ℕ) (fault : Fault) (m : Machine) where
+  -- a step that is no branch and no out
+  plainly : (p : Progress) → p .machine .steps ≡ m .steps + 1 → p .machine .branches ≡ m .branches → p .machine .events ≡ m .events → Counted m p
+  plainly p s b e = record {
+    stepped = λ on. s;
+    grown = record { steps-more = omega arith; branches-more = omega arith; branches-one = omega arith; events-more = ([], e ∙ sym (append-nil (m .events))) };
+  }
+
   executed : (node : Node) → Counted m (execute inputs fault node m)
-  executed (go (const d k) next) = record { stepped = λ e. refl; branches-up = omega arith; branches-one = omega arith }
-  executed (go (op o d a b) next) = record { stepped = λ e. refl; branches-up = omega arith; branches-one = omega arith }
-  executed (go (input d) next) = record { stepped = λ e. refl; branches-up = omega arith; branches-one = omega arith }
-  executed (go (output port a) next) = record { stepped = λ e. refl; branches-up = omega arith; branches-one = omega arith }
-  executed (branch c a b then else) = record { stepped = λ e. refl; branches-up = omega arith; branches-one = omega arith }
-  executed (ret a) = record { stepped = λ e. refl; branches-up = omega arith; branches-one = omega arith }
-  executed stop = record { stepped = λ e. refl; branches-up = omega arith; branches-one = omega arith }
+  executed (go (const d k) next) = plainly (at _ going) refl refl refl
+  executed (go (op o d a b) next) = plainly (at _ going) refl refl refl
+  executed (go (input d) next) = plainly (at _ going) refl refl refl
+  executed (go (output port a) next) = record {
+    stepped = λ on. refl;
+    grown = record { steps-more = omega arith; branches-more = omega arith; branches-one = omega arith; events-more = (port ∷ get m a ∷ [], refl) };
+  }
+  executed (branch c a b then else) = record {
+    stepped = λ on. refl;
+    grown = record { steps-more = omega arith; branches-more = omega arith; branches-one = omega arith; events-more = ([], sym (append-nil (m .events))) };
+  }
+  executed (ret a) = plainly (at (counted m) (ended (Returned (get m a)))) refl refl refl
+  executed stop = plainly (at (counted m) (ended Caught)) refl refl refl
 
   kept : (stop : Option Outcome) (p : Progress) → Counted m p → Counted m (unless stop m p)
   kept none p c = c
-  kept (some o) p c = record { stepped = λ e. cc; branches-up = omega arith; branches-one = omega arith }
+  kept (some o) p c = record { stepped = λ e. cc; grown = still m }
 
 module _ (s : Setting) (fault : Fault) where
   pub next-counted : (m : Machine) → Counted m (next s fault (at m going))
   unfolding next step
   next-counted m =
       kept (s .inputs) fault m (stopped (s .room) (s .graph (m .node)) m) (execute (s .inputs) fault (s .graph (m .node)) m) (executed (s .inputs) fault m (s .graph (m .node)))
+
+  pub next-grown : (p : Progress) → Grown (p .machine) (next s fault p .machine)
+  unfolding next
+  next-grown p = by (p .machine) (p .status)
+    where
+      by : (m : Machine) (status : Status) → Grown m (nextOf s fault m status .machine)
+      by m going = next-counted m .grown
+      by m (ended o) = still m
+
+  -- later rounds have no fewer steps, and their events go on from the earlier ones
+  pub after-grown : (p : Progress) (rounds : ℕ) → (p .machine .steps ≤ after s fault p rounds .machine .steps) × (more : List ℕ) × (after s fault p rounds .machine .events ≡ p .machine .events ++ more)
+  unfolding after
+  after-grown p zero = let g = still (p .machine) in (g .steps-more, g .events-more .0, g .events-more .1)
+  after-grown p (suc rounds) = by (after s fault p rounds) (after-grown p rounds)
+    where
+      by : (q : Progress) → (p .machine .steps ≤ q .machine .steps) × (more : List ℕ) × (q .machine .events ≡ p .machine .events ++ more)
+          → (p .machine .steps ≤ next s fault q .machine .steps) × (more : List ℕ) × (next s fault q .machine .events ≡ p .machine .events ++ more)
+      by q (up, more, e) =
+          let g = next-grown q in
+          let (later, f) = g .events-more in
+          (omega arith, more ++ later, f ∙ ap (_++ later) e ∙ append-assoc (p .machine .events) more later)
 
   -- a run that is going was going before
   pub going-before : (p : Progress) → next s fault p .status ≡ going → p .status ≡ going
@@ -99,14 +142,6 @@ module _ (s : Setting) (fault : Fault) where
           rw same (next-counted (p .machine) .stepped (rw same at e)) in
           omega (arith, ih on, one, add-suc (m .steps) rounds)
 
-  pub branches-next : (p : Progress) → p .machine .branches ≤ next s fault p .machine .branches
-  unfolding next
-  branches-next p = by (p .machine) (p .status)
-    where
-      by : (m : Machine) (status : Status) → m .branches ≤ nextOf s fault m status .machine .branches
-      by m going = next-counted m .branches-up
-      by m (ended o) = omega arith
-
 -- ---- faults
 
 module _ (s : Setting) (place : ℕ) where
@@ -127,16 +162,18 @@ module _ (s : Setting) (place : ℕ) where
       by m going h = ap (unless (stopped (s .room) (s .graph (m .node)) m) m) (unmoved m (s .graph (m .node)) (h refl))
       by m (ended o) h = refl
 
-  -- a branch is counted
-  branch-counted : (m : Machine) → isBranch (s .graph (m .node)) ≡ true → next s Undisturbed (at m going) .machine .branches ≡ m .branches + 1
+  -- a branch is a step, and counted
+  pub branch-counted : (m : Machine) → isBranch (s .graph (m .node)) ≡ true
+      → (next s Undisturbed (at m going) .machine .branches ≡ m .branches + 1) × (next s Undisturbed (at m going) .machine .steps ≡ m .steps + 1)
   unfolding next step
   branch-counted m h = by (s .graph (m .node)) h
     where
-      by : (node : Node) → isBranch node ≡ true → unless (stopped (s .room) node m) m (execute (s .inputs) Undisturbed node m) .machine .branches ≡ m .branches + 1
-      by (branch c a b then else) h = refl
-      by (go action next) h = cc
-      by (ret a) h = cc
-      by stop h = cc
+      by : (node : Node) → isBranch node ≡ true → let p = unless (stopped (s .room) node m) m (execute (s .inputs) Undisturbed node m) in
+          (p .machine .branches ≡ m .branches + 1) × (p .machine .steps ≡ m .steps + 1)
+      by (branch c a b then else) h = (refl, refl)
+      by (go action next) h = (cc, cc)
+      by (ret a) h = (cc, cc)
+      by stop h = (cc, cc)
 
   -- a fault changes nothing before its place ..
   pub before-place : (p : Progress) (rounds : ℕ) → after s Undisturbed p rounds .machine .branches ≤ place → after s (Inverted place) p rounds ≡ after s Undisturbed p rounds
@@ -150,9 +187,9 @@ module _ (s : Setting) (place : ℕ) where
       by q h ih =
           let quiet : q .status ≡ going → isBranch (s .graph (q .machine .node)) ≡ true → eqb place (q .machine .branches) ≡ false =
           λ on b.
-          let one : next s Undisturbed q .machine .branches ≡ q .machine .branches + 1 = rw (ap (at (q .machine)) on) (branch-counted (q .machine) b) in
+          let one : next s Undisturbed q .machine .branches ≡ q .machine .branches + 1 = rw (ap (at (q .machine)) on) (branch-counted (q .machine) b .0) in
           ne-eqb place (q .machine .branches) (λ e. omega arith) in
-          let less : q .machine .branches ≤ next s Undisturbed q .machine .branches = branches-next s Undisturbed q in
+          let less : q .machine .branches ≤ next s Undisturbed q .machine .branches = next-grown s Undisturbed q .branches-more in
           ap (next s (Inverted place)) (ih (omega arith)) ∙ next-unmoved q quiet
 
   -- .. and nothing after it
@@ -168,7 +205,7 @@ module _ (s : Setting) (place : ℕ) where
               → (next s (Inverted place) (after s (Inverted place) p r) ≡ next s Undisturbed q) × (place < next s Undisturbed q .machine .branches)
           by q (same, l) = (
             ap (next s (Inverted place)) same ∙ next-unmoved q (λ on b. ne-eqb place (q .machine .branches) (λ e. omega arith)),
-            omega (arith, branches-next s Undisturbed q),
+            omega (arith, next-grown s Undisturbed q .branches-more),
           )
 
 -- in the round of its place the branch goes to the other target

@@ -1,0 +1,108 @@
+-- Demand 3 in terms of budgets: a hardened run whose budget lies above the steps named ends as the source has ended; each branch
+-- that it executes has a round; and with five steps left after that round the run with the branch inverted ends caught.
+-- Assumes nothing.
+use mathlib.Core.Path.{_≡_, refl, sym, ap, _∙_}
+use mathlib.Core.Logic.{_⊎_, inl, inr}
+use mathlib.Core.Bool.{Bool, true, false, cond}
+use mathlib.Core.Option.{Option, none, some}
+use Prim.Native.Nat.{ℕ, zero, suc, _+_, _-_, _≤_, _<_}
+use native.Mathlib.Nat.{not-suc-le-zero, add-suc}
+use native.Mathlib.Decide.{decLt}
+use native.Mathlib.Omega.{arith}
+use Rattle.graph.specs.Nodes.{Node, go, branch, ret, stop, const, op, input, output}
+use Rattle.bench.specs.Steps.{Machine, Setting, Status, going, ended, Progress, at, start, step, stopped, execute, unless}
+use Rattle.bench.specs.Runs.{nextOf, next, after, runOf}
+use Rattle.bench.specs.declared.Fault.{Fault}
+use Rattle.bench.specs.declared.Fault.the-variants.{Undisturbed, Inverted}
+use Rattle.bench.specs.declared.Outcome.{Outcome}
+use Rattle.bench.specs.declared.Outcome.the-variants.{Returned, Caught, Spent, Full}
+use Rattle.swift.specs.Demand.{Trial, hardened, hardenedGraph, sourceRun, hardenedRun, hardenedSteps, stopping, beside, Follows, isBranch, Executes, soon, CaughtSoon, Unchanged, OneTarget}
+use Rattle.swift.proofs.Rounds.{after-add, after-ended, before-place, next-grown, after-grown, steps-going, branch-counted}
+use Rattle.swift.proofs.Roles.{Accepted}
+use Rattle.swift.proofs.Following.{follows, hardened-next}
+use Rattle.swift.proofs.Inverting.{Answered, answered}
+
+-- a place that is never reached changes nothing about a run
+pub never-reached : (s : Setting) (entry budget place : ℕ) → runOf s Undisturbed entry budget .machine .branches ≤ place → runOf s (Inverted place) entry budget ≡ runOf s Undisturbed entry budget
+unfolding runOf
+never-reached s entry budget place h = before-place s place (at (start entry) going) budget h
+
+-- a run that has ended is the same with any larger budget
+pub stays : (s : Setting) (fault : Fault) (entry rounds budget : ℕ) (o : Outcome) → runOf s fault entry rounds .status ≡ ended o → rounds ≤ budget → runOf s fault entry budget ≡ runOf s fault entry rounds
+unfolding runOf
+stays s fault entry rounds budget o e h =
+    let begin = at (start entry) going in
+    let p = after s fault begin rounds in
+    let rest : budget ≡ rounds + (budget - rounds) = omega arith in
+    let same : p ≡ at (p .machine) (ended o) = ap (at (p .machine)) e in
+    ap (after s fault begin) rest
+    ∙ after-add s fault begin rounds (budget - rounds)
+    ∙ ap (λ q. after s fault q (budget - rounds)) same
+    ∙ after-ended s fault (p .machine) o (budget - rounds)
+    ∙ sym same
+
+stopping-one : (status : Status) → stopping status ≤ 1
+stopping-one going = omega arith
+stopping-one (ended (Returned value)) = omega arith
+stopping-one (ended Caught) = omega arith
+stopping-one (ended Spent) = omega arith
+stopping-one (ended Full) = omega arith
+
+module _ (t : Trial) where
+  pub hardened-stays : (fault : Fault) (rounds budget : ℕ) (o : Outcome) → hardenedRun t fault rounds .status ≡ ended o → rounds ≤ budget → hardenedRun t fault budget ≡ hardenedRun t fault rounds
+  unfolding hardenedRun
+  hardened-stays fault rounds budget o e h = stays (hardened t) fault (t .source .nodes) rounds budget o e h
+
+  -- ---- the round of a place
+
+  uncounted : (m : Machine) (node : Node) → isBranch node ≡ false → unless (stopped (t .room) node m) m (execute (t .inputs) Undisturbed node m) .machine .branches ≡ m .branches
+  uncounted m (go action next) e = by (stopped (t .room) (go action next) m) action
+    where
+      by : (o : Option Outcome) (action : _) → unless o m (execute (t .inputs) Undisturbed (go action next) m) .machine .branches ≡ m .branches
+      by (some o) action = refl
+      by none (const d k) = refl
+      by none (op o d a b) = refl
+      by none (input d) = refl
+      by none (output port a) = refl
+  uncounted m (branch c a b then else) e = cc
+  uncounted m (ret a) e = refl
+  uncounted m stop e = refl
+
+  -- a round that counts a branch executes one
+  counts-branch : (p : Progress) → p .machine .branches < next (hardened t) Undisturbed p .machine .branches
+      → (p .status ≡ going) × (isBranch (hardenedGraph t (p .machine .node)) ≡ true)
+  unfolding next step
+  counts-branch p h = by (p .machine) (p .status) h
+    where
+      by : (m : Machine) (status : Status) → m .branches < nextOf (hardened t) Undisturbed m status .machine .branches → (status ≡ going) × (isBranch (hardenedGraph t (m .node)) ≡ true)
+      by m (ended o) h = absurd (omega arith)
+      by m going h = (refl, is (isBranch (hardenedGraph t (m .node))) refl)
+        where
+          is : (b : Bool) → isBranch (hardenedGraph t (m .node)) ≡ b → b ≡ true
+          is true e = refl
+          is false e = absurd (omega (arith, uncounted m (hardenedGraph t (m .node)) e))
+
+  pub executes : (place budget : ℕ) → place < hardenedRun t Undisturbed budget .machine .branches → (rounds : ℕ) × (rounds < budget) × Executes t place rounds
+  unfolding hardenedRun runOf after start
+  executes place zero h = absurd (not-suc-le-zero h)
+  executes place (suc budget) h = by (decLt place (hardenedRun t Undisturbed budget .machine .branches)) (executes place budget)
+    where
+      by : Dec (place < hardenedRun t Undisturbed budget .machine .branches) → (place < hardenedRun t Undisturbed budget .machine .branches → (rounds : ℕ) × (rounds < budget) × Executes t place rounds)
+          → (rounds : ℕ) × (rounds < suc budget) × Executes t place rounds
+      by (yes l) ih = let (rounds, r<, x) = ih l in (rounds, omega arith, x)
+      by (no d) ih =
+          let p = hardenedRun t Undisturbed budget in
+          let one = next-grown (hardened t) Undisturbed p .branches-one in
+          let (on, branching) = counts-branch p (omega arith) in
+          (budget, omega arith, record { under-way = on; at-branch = branching; this-place = omega arith })
+
+-- ---- what the runs with a budget have in common
+
+module _ (t : Trial) (ok : Accepted (t .source)) where
+  -- where the source has ended, the hardened run with a budget above the steps named has ended beside it
+  pub ends-beside : (rounds budget : ℕ) (o : Outcome) → sourceRun t rounds .status ≡ ended o → hardenedSteps t rounds < budget → hardenedRun t Undisturbed budget ≡ beside t rounds
+  unfolding beside
+  ends-beside rounds budget o e h =
+      let alike : beside t rounds .status ≡ ended o = follows t ok rounds .alike ∙ e in
+      let few : stopping (sourceRun t rounds .status) ≤ 1 = rw e (stopping-one (ended o)) in
+      hardened-stays t Undisturbed (hardenedSteps t rounds + stopping (sourceRun t rounds .status)) budget o alike (omega arith)
