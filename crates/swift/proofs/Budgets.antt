@@ -16,11 +16,11 @@ use Rattle.bench.specs.declared.Fault.{Fault}
 use Rattle.bench.specs.declared.Fault.the-variants.{Undisturbed, Inverted}
 use Rattle.bench.specs.declared.Outcome.{Outcome}
 use Rattle.bench.specs.declared.Outcome.the-variants.{Returned, Caught, Spent, Full}
-use Rattle.swift.specs.Demand.{Trial, hardened, hardenedGraph, sourceRun, hardenedRun, hardenedSteps, stopping, beside, Follows, isBranch, Executes, soon, CaughtSoon, Unchanged, OneTarget}
+use Rattle.swift.specs.Demand.{Trial, hardened, hardenedGraph, sourceRun, hardenedRun, hardenedSteps, stopping, beside, Follows, isBranch, Executes, soon, CaughtBy, CaughtSoon, Unchanged, OneTarget, Answered}
 use Rattle.swift.proofs.Rounds.{after-add, after-ended, before-place, next-grown, after-grown, steps-going, branch-counted}
 use Rattle.swift.proofs.Roles.{Accepted}
 use Rattle.swift.proofs.Following.{follows, hardened-next}
-use Rattle.swift.proofs.Inverting.{Answered, answered}
+use Rattle.swift.proofs.Inverting.{answered}
 
 -- a place that is never reached changes nothing about a run
 pub never-reached : (s : Setting) (entry budget place : ℕ) → runOf s Undisturbed entry budget .machine .branches ≤ place → runOf s (Inverted place) entry budget ≡ runOf s Undisturbed entry budget
@@ -106,3 +106,24 @@ module _ (t : Trial) (ok : Accepted (t .source)) where
       let alike : beside t rounds .status ≡ ended o = follows t ok rounds .alike ∙ e in
       let few : stopping (sourceRun t rounds .status) ≤ 1 = rw e (stopping-one (ended o)) in
       hardened-stays t Undisturbed (hardenedSteps t rounds + stopping (sourceRun t rounds .status)) budget o alike (omega arith)
+
+  -- what is caught stays caught
+  pub caught-stays : {place rounds later : ℕ} → CaughtBy t place rounds later → (budget : ℕ) → later ≤ budget → CaughtBy t place rounds budget
+  caught-stays {place} {rounds} {later} c budget h =
+      let same : hardenedRun t (Inverted place) budget ≡ hardenedRun t (Inverted place) later = hardened-stays t (Inverted place) later budget Caught (c .is-caught) h in
+      record { is-caught = rw same (c .is-caught); no-read = rw same (c .no-read); no-event = rw same (c .no-event) }
+
+  -- a branch executed by a run that has ended lies before its last step
+  pub executed-before : (place rounds budget : ℕ) → Executes t place rounds → rounds < budget → rounds + 1 ≤ hardenedRun t Undisturbed budget .machine .steps
+  unfolding hardenedRun runOf after start
+  executed-before place rounds budget x h =
+      let begin = at (start (t .source .nodes)) going in
+      let p = after (hardened t) Undisturbed begin rounds in
+      let same : p ≡ at (p .machine) going = ap (at (p .machine)) (x .under-way) in
+      let so-far : p .machine .steps ≡ 0 + rounds = steps-going (hardened t) Undisturbed (start (t .source .nodes)) rounds (x .under-way) in
+      let one : next (hardened t) Undisturbed p .machine .steps ≡ p .machine .steps + 1 = rw same (branch-counted (hardened t) 0 (p .machine) (x .at-branch) .1) in
+      let rest : budget ≡ suc rounds + (budget - suc rounds) = omega arith in
+      let up = after-grown (hardened t) Undisturbed (after (hardened t) Undisturbed begin (suc rounds)) (budget - suc rounds) .0 in
+      let end : after (hardened t) Undisturbed begin budget ≡ after (hardened t) Undisturbed (after (hardened t) Undisturbed begin (suc rounds)) (budget - suc rounds) =
+      ap (after (hardened t) Undisturbed begin) rest ∙ after-add (hardened t) Undisturbed begin (suc rounds) (budget - suc rounds) in
+      rw end (omega arith)

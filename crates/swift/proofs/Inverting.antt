@@ -4,8 +4,7 @@
 use mathlib.Core.Path.{_≡_, refl, sym, ap, ap₂, _∙_, subst}
 use mathlib.Core.Logic.{_⊎_, inl, inr}
 use mathlib.Core.Bool.{Bool, true, false, cond, not}
-use Prim.Native.Nat.{ℕ, zero, suc, _+_, _≤_, _<_}
-use native.Mathlib.Nat.{add-assoc}
+use Prim.Native.Nat.{ℕ, zero, suc, _+_, _-_, _≤_, _<_}
 use native.Mathlib.Numerals.{add-one}
 use native.Mathlib.Decide.{ℕ-discrete, decLt}
 use native.Mathlib.Omega.{arith}
@@ -23,7 +22,7 @@ use Rattle.bench.specs.Runs.{next, after, runOf}
 use Rattle.bench.specs.declared.Fault.{Fault}
 use Rattle.bench.specs.declared.Fault.the-variants.{Undisturbed, Inverted}
 use Rattle.bench.specs.declared.Outcome.the-variants.{Caught}
-use Rattle.swift.specs.Demand.{Trial, hardened, hardenedGraph, hardenedRun, isBranch, Executes, soon, CaughtSoon, Unchanged, TestOf, first, again, OneTarget}
+use Rattle.swift.specs.Demand.{Trial, hardened, hardenedGraph, hardenedRun, isBranch, Executes, soon, CaughtSoon, Unchanged, TestOf, first, again, OneTarget, Answered}
 use Rattle.swift.proofs.Xor.{xor-cancel}
 use Rattle.swift.proofs.Rows.{ownRowOf, own-row, first-row, catch-row, extraOf, group-order, group-above}
 use Rattle.swift.proofs.Blocks.{sign-apart, targets-lead}
@@ -109,22 +108,25 @@ module _ (t : Trial) (ok : Accepted (t .source)) where
 
     unchanged : (m° : Machine) → next (hardened t) Undisturbed (at m going) ≡ at m° going → from m′ 2 ≡ from m° 2 → Unchanged t place rounds
     unfolding hardenedRun runOf after
-    unchanged m° right same more =
+    unchanged m° right same later h =
         let begin = at (start (s .nodes)) going in
+        let more = later - (rounds + 1 + 2) in
+        let split : later ≡ rounds + 1 + (2 + more) = omega arith in
         let step : after (hardened t) Undisturbed begin (rounds + 1) ≡ at m° going =
         ap (after (hardened t) Undisturbed begin) (add-one rounds) ∙ ap (next (hardened t) Undisturbed) here ∙ right in
         let plain-run : hardenedRun t Undisturbed (rounds + 1 + (2 + more)) ≡ from m° (2 + more) =
         after-add (hardened t) Undisturbed begin (rounds + 1) (2 + more) ∙ ap (λ p. after (hardened t) Undisturbed p (2 + more)) step in
         let meet : from m′ (2 + more) ≡ from m° (2 + more) =
-        after-add (hardened t) Undisturbed (at m′ going) 2 more ∙ ap (λ p. after (hardened t) Undisturbed p more) same ∙ sym (after-add (hardened t) Undisturbed (at m° going) 2 more) in
-        ap (hardenedRun t (Inverted place)) (add-assoc (rounds + 1) 2 more) ∙ inverted-run (2 + more) ∙ meet ∙ sym plain-run
-        ∙ ap (hardenedRun t Undisturbed) (sym (add-assoc (rounds + 1) 2 more))
+        after-add (hardened t) Undisturbed (at m′ going) 2 more
+        ∙ ap (λ p. after (hardened t) Undisturbed p more) same
+        ∙ sym (after-add (hardened t) Undisturbed (at m° going) 2 more) in
+        ap (hardenedRun t (Inverted place)) split ∙ inverted-run (2 + more) ∙ meet ∙ sym plain-run ∙ ap (hardenedRun t Undisturbed) (sym split)
 
   -- ---- the three kinds of branches
 
-  -- what demand 3 says of the branch at a node
-  abbrev pub Answered : ℕ → ℕ → ℕ → Type 0
-  Answered node place rounds = (OneTarget s node × Unchanged t place rounds) ⊎ ((OneTarget s node → ⊥) × CaughtSoon t place rounds)
+  -- what demand 3 says of a branch at this node
+  abbrev AnsweredAt : ℕ → ℕ → ℕ → Type 0
+  AnsweredAt node place rounds = (OneTarget s node × Unchanged t place rounds) ⊎ ((OneTarget s node → ⊥) × CaughtSoon t place rounds)
 
   test-place : {n i : ℕ} → TestOf s n i → (i ≡ n) ⊎ (i ≡ groupAt s n + 2)
   test-place first = inl refl
@@ -211,7 +213,7 @@ module _ (t : Trial) (ok : Accepted (t .source)) where
     place = m .branches
 
     -- the check, inverted, goes to the catch
-    at-check : (σ : Machine) → Checking t σ m → Answered (m .node) place rounds
+    at-check : (σ : Machine) → Checking t σ m → AnsweredAt (m .node) place rounds
     unfolding compare
     at-check σ c =
         let m′ = branchTo m (s .nodes + 1) in
@@ -220,7 +222,7 @@ module _ (t : Trial) (ok : Accepted (t .source)) where
         inr (no-test (m .node) (σ .node) (c .row), caught-soon place rounds m m′ here refl wrong refl (counted m′) (catches m′ 4 refl) refl refl)
 
     -- the doubled test, inverted, meets the other side's check
-    at-doubled : (σ : Machine) → Doubling t σ m → Answered (m .node) place rounds
+    at-doubled : (σ : Machine) → Doubling t σ m → AnsweredAt (m .node) place rounds
     unfolding after
     at-doubled σ d = by (ℕ-discrete (b .yea) (b .nay))
       where
@@ -245,7 +247,7 @@ module _ (t : Trial) (ok : Accepted (t .source)) where
         wrong : next (hardened t) (Inverted place) (at m going) ≡ at (to (not w)) going
         wrong = inverted-step (hardened t) m (b .comparison) (b .left) (e + 3) (e + 5) (b .right) w (ap (hardenedGraph t) (d .place) ∙ doubled-row t ok b) (way-along t ok (d .way) (d .along))
 
-        by : Dec (b .yea ≡ b .nay) → Answered (m .node) place rounds
+        by : Dec (b .yea ≡ b .nay) → AnsweredAt (m .node) place rounds
         by (yes one) = inl (one-target b one (m .node) test, unchanged place rounds m (to (not w)) here refl wrong refl (to w) (double-goes t ok (d .way) (d .along) (d .place)) meet)
           where
             joins : (u : Bool) → from (to u) 2 ≡ at (branchTo (setting (to true) R (signOf t (σ .node)) 0) (σ .node)) going
@@ -265,7 +267,7 @@ module _ (t : Trial) (ok : Accepted (t .source)) where
             )
 
     -- the first test, inverted, prepares the other target's signature
-    at-first : (σ : Machine) → AtSource t σ m → (b : BranchAt t (σ .node)) → Answered (m .node) place rounds
+    at-first : (σ : Machine) → AtSource t σ m → (b : BranchAt t (σ .node)) → AnsweredAt (m .node) place rounds
     at-first σ a b = by (ℕ-discrete (b .yea) (b .nay))
       where
         n : ℕ
@@ -304,7 +306,7 @@ module _ (t : Trial) (ok : Accepted (t .source)) where
         prepares : (u : Bool) (more : ℕ) → from (to u) (suc more) ≡ from (prepared u) more
         prepares u more = after-first (hardened t) Undisturbed (at (to u) going) (at (prepared u) going) more (prepare-goes t ok (to u) b u (fork e u))
 
-        by : Dec (b .yea ≡ b .nay) → Answered (m .node) place rounds
+        by : Dec (b .yea ≡ b .nay) → AnsweredAt (m .node) place rounds
         by (yes one) = inl (one-target b one (m .node) test, unchanged place rounds m (to (not w)) here refl wrong refl (to w) right meet)
           where
             meet : from (to (not w)) 2 ≡ from (to w) 2
@@ -340,24 +342,24 @@ module _ (t : Trial) (ok : Accepted (t .source)) where
             ready = set-same t ok parted (R + 1) v (e + 2) (omega (arith, ok .in-order .few-registers))
 
     module _ (branching : isBranch (hardenedGraph t (m .node)) ≡ true) where
-      no-branch : (node : Node) → hardenedGraph t (m .node) ≡ node → isBranch node ≡ false → Answered (m .node) place rounds
+      no-branch : (node : Node) → hardenedGraph t (m .node) ≡ node → isBranch node ≡ false → AnsweredAt (m .node) place rounds
       no-branch node e none =
           let z : _≡_ {A = ℕ} 0 1 = cc (ap isBranch e) in
           absurd (omega arith)
 
-      at-node : (σ : Machine) → AtSource t σ m → (node : Node) → s .graph (σ .node) ≡ node → Answered (m .node) place rounds
+      at-node : (σ : Machine) → AtSource t σ m → (node : Node) → s .graph (σ .node) ≡ node → AnsweredAt (m .node) place rounds
       at-node σ a node is = by node is
         where
           own : hardenedGraph t (m .node) ≡ ownRowOf s (σ .node)
           own = ap (hardenedGraph t) (a .node) ∙ own-row t (σ .node) (a .inside)
 
-          by : (node : Node) → s .graph (σ .node) ≡ node → Answered (m .node) place rounds
+          by : (node : Node) → s .graph (σ .node) ≡ node → AnsweredAt (m .node) place rounds
           by (branch c l r yea nay) is = at-first σ a (record { here = a .inside; comparison = c; left = l; right = r; yea = yea; nay = nay; is-branch = is })
           by (go action next) is = no-branch _ own (rw is)
           by (ret v) is = no-branch _ own (rw is)
           by stop is = no-branch _ own (rw is)
 
-      by-role : Standing t m → Answered (m .node) place rounds
+      by-role : Standing t m → AnsweredAt (m .node) place rounds
       unfolding start firstRow
       by-role (starting e) = no-branch (firstRow s) (ap (λ n. hardenedGraph t (n .node)) e ∙ first-row t) refl
       by-role (at-source σ a) = at-node σ a (s .graph (σ .node)) refl
@@ -368,7 +370,7 @@ module _ (t : Trial) (ok : Accepted (t .source)) where
       by-role (checking σ c) = at-check σ c
 
   -- demand 3, with one branch inverted
-  pub answered : (place rounds : ℕ) → Executes t place rounds → Answered (hardenedRun t Undisturbed rounds .machine .node) place rounds
+  pub answered : (place rounds : ℕ) → Executes t place rounds → Answered t place rounds
   answered place rounds x =
       let m = hardenedRun t Undisturbed rounds .machine in
       let here : hardenedRun t Undisturbed rounds ≡ at m going = ap (at m) (x .under-way) in

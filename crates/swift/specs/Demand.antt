@@ -2,8 +2,9 @@
 -- source after s; and one inverted branch is caught within five further steps, or, at a doubled test whose two targets are
 -- one node, has changed nothing two steps later. Here is what each of these words means; proofs/ has the theorems.
 -- Assumes nothing.
-use Prim.Native.Nat.{ℕ, zero, suc, _+_, _*_, _<_}
+use Prim.Native.Nat.{ℕ, zero, suc, _+_, _*_, _≤_, _<_}
 use mathlib.Core.Path.{_≡_}
+use mathlib.Core.Logic.{_⊎_}
 use mathlib.Core.Bool.{Bool, true, false, cond, _&&_}
 use mathlib.Core.List.{List, _++_}
 use lib.ListN.{take}
@@ -101,19 +102,22 @@ pub record Executes (t : Trial) (place rounds : ℕ) : Type 0 where
   pub at-branch : isBranch (hardenedGraph t (hardenedRun t Undisturbed rounds .machine .node)) ≡ true
   pub this-place : hardenedRun t Undisturbed rounds .machine .branches ≡ place
 
--- the further steps within which an inverted branch is caught
+-- caught after so many rounds, and no read or event since the inverted branch
+pub record CaughtBy (t : Trial) (place rounds later : ℕ) : Type 0 where
+  pub is-caught : hardenedRun t (Inverted place) later .status ≡ ended Caught
+  pub no-read : hardenedRun t (Inverted place) later .machine .reads ≡ hardenedRun t Undisturbed rounds .machine .reads
+  pub no-event : hardenedRun t (Inverted place) later .machine .events ≡ hardenedRun t Undisturbed rounds .machine .events
+
+-- caught within five further steps
 abbrev pub soon : ℕ
 soon = 5
 
--- caught within five steps after the inverted one, and no read or event in between
-pub record CaughtSoon (t : Trial) (place rounds : ℕ) : Type 0 where
-  pub is-caught : hardenedRun t (Inverted place) (rounds + 1 + soon) .status ≡ ended Caught
-  pub no-read : hardenedRun t (Inverted place) (rounds + 1 + soon) .machine .reads ≡ hardenedRun t Undisturbed rounds .machine .reads
-  pub no-event : hardenedRun t (Inverted place) (rounds + 1 + soon) .machine .events ≡ hardenedRun t Undisturbed rounds .machine .events
+abbrev pub CaughtSoon : Trial → ℕ → ℕ → Type 0
+CaughtSoon t place rounds = CaughtBy t place rounds (rounds + 1 + soon)
 
 -- two steps after the inverted one, and ever after, exactly the undisturbed run
 abbrev pub Unchanged : Trial → ℕ → ℕ → Type 0
-Unchanged t place rounds = (more : ℕ) → hardenedRun t (Inverted place) (rounds + 1 + 2 + more) ≡ hardenedRun t Undisturbed (rounds + 1 + 2 + more)
+Unchanged t place rounds = (later : ℕ) → rounds + 1 + 2 ≤ later → hardenedRun t (Inverted place) later ≡ hardenedRun t Undisturbed later
 
 -- the two nodes of the hardened graph that make a source branch's test
 pub data TestOf (s : Source) (n : ℕ) : ℕ → Type 0 where
@@ -130,3 +134,9 @@ pub record OneTarget (s : Source) (i : ℕ) : Type 0 where
   pub right : Operand
   pub target : ℕ
   pub is-branch : s .graph node ≡ branch comparison left right target target
+
+-- the second half of demand 3, for the branch that the undisturbed hardened run executes in the round after these
+abbrev pub Answered : Trial → ℕ → ℕ → Type 0
+Answered t place rounds =
+    let test = OneTarget (t .source) (hardenedRun t Undisturbed rounds .machine .node) in
+    (test × Unchanged t place rounds) ⊎ ((test → ⊥) × CaughtSoon t place rounds)
