@@ -8,3 +8,4 @@ pub mod Following
 pub mod Standing
 pub mod Inverting
 pub mod Budgets
+pub mod Scores

@@ -18,6 +18,7 @@ use Rattle.bench.specs.declared.Fault.{Fault}
 use Rattle.bench.specs.declared.Fault.the-variants.{Undisturbed, Inverted}
 use Rattle.bench.specs.declared.Outcome.{Outcome}
 use Rattle.bench.specs.declared.Outcome.the-variants.{Returned, Caught, Spent, Full}
+use Rattle.bench.specs.declared.Score.{Score}
 
 -- a plan that gives no two ranks one signature
 abbrev pub Distinct : Plan → Type 0
@@ -140,3 +141,23 @@ abbrev pub Answered : Trial → ℕ → ℕ → Type 0
 Answered t place rounds =
     let test = OneTarget (t .source) (hardenedRun t Undisturbed rounds .machine .node) in
     (test × Unchanged t place rounds) ⊎ ((test → ⊥) × CaughtSoon t place rounds)
+
+-- the undisturbed hardened run returns this value within its budget, with five steps to spare
+pub record Returns (t : Trial) (budget value : ℕ) : Type 0 where
+  pub returned : hardenedRun t Undisturbed budget .status ≡ ended (Returned value)
+  pub to-spare : hardenedRun t Undisturbed budget .machine .steps + soon ≤ budget
+
+-- the branch at this place is a doubled test whose two targets are one node
+pub record TestAt (t : Trial) (place budget : ℕ) : Type 0 where
+  pub rounds : ℕ
+  pub within : rounds < budget
+  pub executed : Executes t place rounds
+  pub one-target : OneTarget (t .source) (hardenedRun t Undisturbed rounds .machine .node)
+
+-- a score in which each position is caught or harmless
+pub record Covered (positions : ℕ) (score : Score) : Type 0 where
+  pub all-tried : score .positions ≡ positions
+  pub caught-or-harmless : score .caught + score .harmless ≡ score .positions
+  pub none-late : score .late ≡ 0
+  pub none-changed : score .changed ≡ 0
+  pub none-unended : score .unended ≡ 0
