@@ -9,3 +9,4 @@ pub mod Standing
 pub mod Inverting
 pub mod Budgets
 pub mod Scores
+pub mod Runnable

@@ -16,7 +16,7 @@ use Rattle.swift.specs.Demand.{Trial, hardenedGraph}
 
 -- ---- words of rows
 
-six-words : (row : Node) → length (wordsOf row) ≡ 6
+pub six-words : (row : Node) → length (wordsOf row) ≡ 6
 six-words (go (const d k) next) = refl
 six-words (go (op o d a b) next) = refl
 six-words (go (input d) next) = refl
