@@ -110,11 +110,31 @@ firstRow s = go (const (s .registers) (sign s (s .entry))) (s .entry)
 
 -- all nodes: the source nodes, node N, the catch, the groups in ascending order of source node
 unfoldable pub hardenedRows : Source → List Node
-hardenedRows s = sourceRows s (s .nodes) ++ (firstRow s ∷ stop ∷ []) ++ groupRows s (s .nodes)
+hardenedRows s = sourceRows s (s .nodes) ++ firstRow s ∷ stop ∷ groupRows s (s .nodes)
+
+-- row i of them
+unfoldable pub rowAt : Source → ℕ → Node
+rowAt s i = getD (hardenedRows s) i stop
 
 -- H
 unfoldable pub hardenedCount : Source → ℕ
 hardenedCount s = groupAt s (s .nodes)
+
+abbrev pub isBranch : Node → Bool
+isBranch (branch c a b then else) = true
+isBranch (go action next) = false
+isBranch (ret a) = false
+isBranch stop = false
+
+-- the branch nodes below n: B at n = N
+unfoldable pub branchCount : Source → ℕ → ℕ
+branchCount s zero = 0
+branchCount s (suc n) = branchCount s n + cond (isBranch (s .graph n)) 1 0
+
+-- the crossing edges from the nodes below n: X at n = N
+unfoldable pub crossingCount : Source → ℕ → ℕ
+crossingCount s zero = 0
+crossingCount s (suc n) = crossingCount s n + cond (crossing s n) 1 0
 
 -- the words of rows, six a row
 abbrev pub tableOf : List Node → List ℕ

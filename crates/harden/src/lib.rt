@@ -1,6 +1,10 @@
 // Leaders, ranks, signatures, and the hardened table.
-
 use graph::Header;
+
+mod blocks;
+mod groups;
+mod leaders;
+mod writing;
 
 // What hardening answers: the hardened graph's R, N and entry, or the refusal's number and place.
 pub enum Hardening {
