@@ -10,13 +10,14 @@ use native.Mathlib.Nat.{not-suc-le-zero, add-suc}
 use native.Mathlib.Decide.{decLt}
 use native.Mathlib.Omega.{arith}
 use Rattle.graph.specs.Nodes.{Node, go, branch, ret, stop, const, op, input, output}
+use Rattle.harden.specs.Hardened.{isBranch}
 use Rattle.bench.specs.Steps.{Machine, Setting, Status, going, ended, Progress, at, start, step, stopped, execute, unless}
 use Rattle.bench.specs.Runs.{nextOf, next, after, runOf}
 use Rattle.bench.specs.declared.Fault.{Fault}
 use Rattle.bench.specs.declared.Fault.the-variants.{Undisturbed, Inverted}
 use Rattle.bench.specs.declared.Outcome.{Outcome}
 use Rattle.bench.specs.declared.Outcome.the-variants.{Returned, Caught, Spent, Full}
-use Rattle.swift.specs.Demand.{Trial, hardened, hardenedGraph, sourceRun, hardenedRun, hardenedSteps, stopping, beside, Follows, isBranch, Executes, soon, CaughtBy, CaughtSoon, Unchanged, OneTarget, Answered}
+use Rattle.swift.specs.Demand.{Trial, hardened, hardenedGraph, sourceRun, hardenedRun, hardenedSteps, stopping, beside, Follows, Executes, soon, CaughtBy, CaughtSoon, Unchanged, OneTarget, Answered}
 use Rattle.swift.proofs.Rounds.{after-add, after-ended, before-place, next-grown, after-grown, steps-going, branch-counted}
 use Rattle.swift.proofs.Roles.{Accepted}
 use Rattle.swift.proofs.Following.{follows, hardened-next}

@@ -15,16 +15,17 @@ use lib.Dec.{eqb}
 use borrow.Author.Tests.{eq-eqb, ne-eqb}
 use Rattle.graph.specs.Nodes.{Node, go, branch, ret, stop, Operand}
 use Rattle.graph.specs.Accepted.{NodeIn}
-use Rattle.harden.specs.Hardened.{Source, sign, groupAt, prepare, update, firstRow}
+use Rattle.harden.specs.Hardened.{Source, isBranch, sign, groupAt, prepare, update, firstRow}
 use Rattle.bench.specs.Words.{operate, compare}
 use Rattle.bench.specs.Steps.{Machine, Setting, Status, going, ended, Progress, at, start, get, operandOf, setting, branchTo, counted}
 use Rattle.bench.specs.Runs.{next, after, runOf}
 use Rattle.bench.specs.declared.Fault.{Fault}
 use Rattle.bench.specs.declared.Fault.the-variants.{Undisturbed, Inverted}
 use Rattle.bench.specs.declared.Outcome.the-variants.{Caught}
-use Rattle.swift.specs.Demand.{Trial, hardened, hardenedGraph, hardenedRun, isBranch, Executes, soon, CaughtSoon, Unchanged, TestOf, first, again, OneTarget, Answered}
+use Rattle.harden.proofs.Rows.{own}
+use Rattle.swift.specs.Demand.{Trial, hardened, hardenedGraph, hardenedRun, Executes, soon, CaughtSoon, Unchanged, TestOf, first, again, OneTarget, Answered}
 use Rattle.swift.proofs.Xor.{xor-cancel}
-use Rattle.swift.proofs.Rows.{ownRowOf, own-row, first-row, catch-row, extraOf, group-order, group-above}
+use Rattle.swift.proofs.Rows.{own-row, first-row, catch-row, extraOf, group-order, group-above}
 use Rattle.swift.proofs.Blocks.{sign-apart, targets-lead}
 use Rattle.swift.proofs.Rounds.{after-add, after-first, after-ended, step-at, before-place, past-place, inverted-step}
 use Rattle.swift.proofs.Roles.{Accepted, gsr, rts, signOf, checkFor, Along, AtSource, Checking, Updating, Preparing, Tested, Doubling, BranchAt, side, Way, branch-in, branch-row, prepare-row, update-row, check-row, doubled-row, way-along, test-along, set-along, both-along, set-same, gsr-kept, fork, way-from, prepare-goes, double-goes}
@@ -350,14 +351,14 @@ module _ (t : Trial) (ok : Accepted (t .source)) where
       at-node : (σ : Machine) → AtSource t σ m → (node : Node) → s .graph (σ .node) ≡ node → AnsweredAt (m .node) place rounds
       at-node σ a node is = by node is
         where
-          own : hardenedGraph t (m .node) ≡ ownRowOf s (σ .node)
-          own = ap (hardenedGraph t) (a .node) ∙ own-row t (σ .node) (a .inside)
+          row : hardenedGraph t (m .node) ≡ own s (σ .node)
+          row = ap (hardenedGraph t) (a .node) ∙ own-row t (σ .node) (a .inside)
 
           by : (node : Node) → s .graph (σ .node) ≡ node → AnsweredAt (m .node) place rounds
           by (branch c l r yea nay) is = at-first σ a (record { here = a .inside; comparison = c; left = l; right = r; yea = yea; nay = nay; is-branch = is })
-          by (go action next) is = no-branch _ own (rw is)
-          by (ret v) is = no-branch _ own (rw is)
-          by stop is = no-branch _ own (rw is)
+          by (go action next) is = no-branch _ row (rw is)
+          by (ret v) is = no-branch _ row (rw is)
+          by stop is = no-branch _ row (rw is)
 
       by-role : Standing t m → AnsweredAt (m .node) place rounds
       unfolding start firstRow

@@ -25,7 +25,7 @@ use Rattle.bench.specs.declared.Outcome.{Outcome}
 use Rattle.bench.specs.declared.Outcome.the-variants.{Returned, Caught, Spent, Full}
 use Rattle.swift.specs.Demand.{Trial, Distinct, plain, hardened, hardenedGraph, stopping, Agree}
 use Rattle.swift.proofs.Xor.{xor-cancel}
-use Rattle.swift.proofs.Rows.{own-row, extra-row, extraOf, groupFor}
+use Rattle.swift.proofs.Rows.{own-row, extra-row, extraOf}
 use Rattle.swift.proofs.Blocks.{same-sign}
 use Rattle.swift.proofs.Rounds.{step-at}
 

@@ -12,6 +12,7 @@ use native.Mathlib.Omega.{arith}
 use lib.Dec.{eqb, leb}
 use borrow.Author.Tests.{ne-eqb, eq-eqb}
 use Rattle.graph.specs.Nodes.{Node, go, branch, ret, stop, Action, const, op, input, output, Operand}
+use Rattle.harden.specs.Hardened.{isBranch}
 use Rattle.bench.specs.Words.{compare}
 use Rattle.bench.specs.Steps.{Machine, Setting, Status, going, ended, Progress, at, start, step, get, operandOf, act, branchTo, counted, inverts, flip, stopped, execute, unless}
 use Rattle.bench.specs.Runs.{nextOf, next, after, runOf}
@@ -19,7 +20,6 @@ use Rattle.bench.specs.declared.Fault.{Fault}
 use Rattle.bench.specs.declared.Fault.the-variants.{Undisturbed, Inverted}
 use Rattle.bench.specs.declared.Outcome.{Outcome}
 use Rattle.bench.specs.declared.Outcome.the-variants.{Returned, Caught, Spent, Full}
-use Rattle.swift.specs.Demand.{isBranch}
 
 module _ (s : Setting) (fault : Fault) where
   pub after-add : (p : Progress) (a b : ℕ) → after s fault p (a + b) ≡ after s fault (after s fault p a) b

@@ -16,7 +16,9 @@ use Rattle.graph.specs.Accepted.{ActionIn, OperandIn, NodeIn, SourceGraph}
 use Rattle.graph.specs.Checks.{faultAt, runnableCheck}
 use Rattle.graph.proofs.Passed.{Passed, table-given}
 use Rattle.harden.specs.Hardened.{Source, extra, ownRow, groupOf, prepare, update, check, sign, crossing, extraBelow, groupAt, sourceRows, groupRows, firstRow, hardenedRows, hardenedCount, tableOf, hardenedTable}
-use Rattle.swift.proofs.Rows.{six-words, word-at, rows-length, extraOf, ownRowOf, groupFor, group-order}
+use Rattle.harden.proofs.Count.{count-bound, rows-length, hardened-length}
+use Rattle.harden.proofs.Rows.{own, group, word-at}
+use Rattle.swift.proofs.Rows.{extraOf, group-in, source-in}
 
 -- ---- words in order
 
@@ -70,6 +72,96 @@ module _ (registers nodes : ℕ) where
       let this : getD (tableOf rows ++ behind) i 0 ≡ getD (wordsOf (getD rows n stop)) j 0 = ap (λ k. getD (tableOf rows ++ behind) k 0) (omega arith) ∙ word-at rows behind n j (omega arith) (omega arith) in
       rw (first, this) (row-order (getD rows n stop) (all-at rows n a (omega arith)) j (omega arith))
 
-  all-words : (rows : List Node) → length (tableOf rows) ≡ 6 * length rows
-  all-words [] = refl
-  all-words (row ∷ rows) = length-append (wordsOf row) (tableOf rows) ∙ omega (arith, six-words row, all-words rows)
+-- ---- the rows of a hardened graph
+
+module _ (s : Source) (ok : SourceGraph (s .registers) (s .nodes) (s .entry) (s .graph)) where
+  abbrev R : ℕ
+  R = s .registers
+
+  abbrev H : ℕ
+  H = hardenedCount s
+
+  action-in : (action : Action) → ActionIn R action → ActionIn (R + 2) action
+  action-in (const d k) h = omega arith
+  action-in (op o d a b) (o<, d<, a<, b<) = (o<, omega arith, omega arith, omega arith)
+  action-in (input d) h = omega arith
+  action-in (output port a) (port<, a<) = (port<, omega arith)
+
+  operand-in : (b : Operand) → OperandIn R b → OperandIn (R + 2) b
+  operand-in (register b) h = omega arith
+  operand-in (constant k) h = tt
+
+  abbrev RowIn : Node → Type 0
+  RowIn row = NodeIn (R + 2) H row
+
+  -- whatever the signatures
+  prepare-in : (next : ℕ) → next < H → RowIn (prepare R 0 0 next)
+  prepare-in next h = (omega arith, h)
+
+  update-in : (next : ℕ) → next < H → RowIn (update R next)
+  update-in next h = ((omega arith, omega arith, omega arith, omega arith), h)
+
+  check-in : (target : ℕ) → target < s .nodes → RowIn (check R 0 (s .nodes + 1) target)
+  check-in target h = (omega arith, omega arith, tt, omega (arith, source-in s), omega (arith, source-in s))
+
+  own-in : (n : ℕ) (node : Node) (crosses : Bool) → NodeIn R (s .nodes) node → groupAt s n + extra crosses node ≤ H → RowIn (ownRow (groupAt s n) crosses node)
+  own-in n (go action next) true (a, next<) fits = (action-in action a, omega arith)
+  own-in n (go action next) false (a, next<) fits = (action-in action a, omega (arith, source-in s))
+  own-in n (branch c a b t f) crosses (c<, a<, b<, t<, f<) fits = (c<, omega arith, operand-in b b<, omega arith, omega arith)
+  own-in n (ret a) crosses h fits = omega arith
+  own-in n stop crosses h fits = tt
+
+  group-rows-in : (n : ℕ) (node : Node) (crosses : Bool) → NodeIn R (s .nodes) node → groupAt s n + extra crosses node ≤ H
+      → AllIn (R + 2) H (groupOf R (s .nodes + 1) (groupAt s n) (sign s) crosses n node)
+  group-rows-in n (go action l) true (a, l<) fits =
+      (prepare-in _ (omega arith), (update-in _ (omega arith), (check-in l l<, tt)))
+  group-rows-in n (go action l) false h fits = tt
+  group-rows-in n (branch c a b t f) crosses (c<, a<, b<, t<, f<) fits = (
+    prepare-in _ (omega arith),
+    (
+      prepare-in _ (omega arith),
+      (
+        (c<, omega arith, operand-in b b<, omega arith, omega arith),
+        (update-in _ (omega arith), (check-in t t<, (update-in _ (omega arith), (check-in f f<, tt)))),
+      ),
+    ),
+  )
+  group-rows-in n (ret a) crosses h fits = tt
+  group-rows-in n stop crosses h fits = tt
+
+  sources-in : (k : ℕ) → k ≤ s .nodes → AllIn (R + 2) H (sourceRows s k)
+  unfolding sourceRows
+  sources-in zero h = tt
+  sources-in (suc k) h =
+      all-append (R + 2) H (sourceRows s k) (own s k ∷ []) (sources-in k (omega arith))
+      (own-in k (s .graph k) (crossing s k) (ok .node-in k h) (group-in s k h), tt)
+
+  groups-in : (k : ℕ) → k ≤ s .nodes → AllIn (R + 2) H (groupRows s k)
+  unfolding groupRows
+  groups-in zero h = tt
+  groups-in (suc k) h =
+      all-append (R + 2) H (groupRows s k) (group s k) (groups-in k (omega arith))
+      (group-rows-in k (s .graph k) (crossing s k) (ok .node-in k h) (group-in s k h))
+
+  all-in : AllIn (R + 2) H (hardenedRows s)
+  unfolding hardenedRows firstRow
+  all-in =
+      all-append (R + 2) H (sourceRows s (s .nodes)) (firstRow s ∷ stop ∷ groupRows s (s .nodes)) (sources-in (s .nodes) (omega arith))
+      ((omega arith, omega (arith, ok .entry-in, source-in s)), (tt, groups-in (s .nodes) (omega arith)))
+
+  -- the hardened graph is runnable
+  pub hardened-runnable : (behind : List ℕ) → runnableCheck (R + 2) H (s .nodes) (hardenedTable s ++ behind) ≡ given tt
+  unfolding runnableCheck hardenedTable
+  hardened-runnable behind =
+      let entry-in : s .nodes < H = omega (arith, source-in s) in
+      let words : length (tableOf (hardenedRows s) ++ behind) ≡ 6 * H + length behind = length-append (tableOf (hardenedRows s)) behind ∙ ap (_+ length behind) (hardened-length s) in
+      table-given runnable (R + 2) H (s .nodes) (tableOf (hardenedRows s) ++ behind)
+      (record {
+        some-registers = omega arith;
+        few-registers = omega (arith, ok .few-registers);
+        some-nodes = omega arith;
+        few-nodes = count-bound s (ok .few-nodes);
+        room = omega arith;
+        entry-in = entry-in;
+        in-order = λ i h. table-order (R + 2) H (hardenedRows s) behind all-in i (rw rows-length h);
+      })

@@ -9,9 +9,9 @@ use mathlib.Core.Bool.{Bool, true, false, cond, _&&_}
 use mathlib.Core.List.{List, _++_}
 use lib.ListN.{take}
 use lib.Dec.{ltb}
-use Rattle.graph.specs.Nodes.{Node, go, branch, ret, stop, Operand, nodeAt}
+use Rattle.graph.specs.Nodes.{Node, branch, Operand, nodeAt}
 use Rattle.harden.specs.Blocks.{Plan}
-use Rattle.harden.specs.Hardened.{Source, crossing, groupAt, hardenedTable}
+use Rattle.harden.specs.Hardened.{Source, isBranch, crossing, groupAt, hardenedTable}
 use Rattle.bench.specs.Steps.{Machine, Setting, Status, going, ended, Progress}
 use Rattle.bench.specs.Runs.{runOf}
 use Rattle.bench.specs.declared.Fault.{Fault}
@@ -90,12 +90,6 @@ pub record Follows (t : Trial) (rounds : ℕ) : Type 0 where
   pub steps : beside t rounds .machine .steps ≡ hardenedSteps t rounds
   pub agree : Agree (t .source .registers) (beside t rounds .machine) (sourceRun t rounds .machine)
   pub alike : beside t rounds .status ≡ sourceRun t rounds .status
-
-abbrev pub isBranch : Node → Bool
-isBranch (branch c a b then else) = true
-isBranch (go action next) = false
-isBranch (ret a) = false
-isBranch stop = false
 
 -- the undisturbed hardened run executes a branch, and its place among the branches executed is this
 pub record Executes (t : Trial) (place rounds : ℕ) : Type 0 where
