@@ -10,3 +10,4 @@ pub mod Inverting
 pub mod Budgets
 pub mod Scores
 pub mod Runnable
+pub mod Promised
