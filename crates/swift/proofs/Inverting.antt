@@ -28,7 +28,7 @@ use Rattle.swift.proofs.Xor.{xor-cancel}
 use Rattle.swift.proofs.Rows.{own-row, first-row, catch-row, extraOf, group-order, group-above}
 use Rattle.swift.proofs.Blocks.{sign-apart, targets-lead}
 use Rattle.swift.proofs.Rounds.{after-add, after-first, after-ended, step-at, before-place, past-place, inverted-step}
-use Rattle.swift.proofs.Roles.{Accepted, gsr, rts, signOf, checkFor, Along, AtSource, Checking, Updating, Preparing, Tested, Doubling, BranchAt, side, Way, branch-in, branch-row, prepare-row, update-row, check-row, doubled-row, way-along, test-along, set-along, both-along, set-same, gsr-kept, fork, way-from, prepare-goes, double-goes}
+use Rattle.swift.proofs.Roles.{Accepted, gsr, rts, signOf, checkFor, Along, AtSource, Checking, Updating, Preparing, Tested, Doubling, BranchAt, side, Way, branch-in, branch-row, prepare-row, update-row, check-row, doubled-row, way-along, test-along, set-along, both-along, set-same, gsr-kept, fork, way-from, HardenedStep, check-goes, update-goes, prepare-goes, double-goes}
 use Rattle.swift.proofs.Standing.{Standing, starting, at-source, tested, doubling, preparing, updating, checking, standing}
 
 module _ (t : Trial) (ok : Accepted (t .source)) where
@@ -42,49 +42,35 @@ module _ (t : Trial) (ok : Accepted (t .source)) where
   abbrev from : Machine → ℕ → Progress
   from m rounds = after (hardened t) Undisturbed (at m going) rounds
 
-  -- ---- to the catch
+  after-step : (m n : Machine) (rounds : ℕ) → HardenedStep t m (at n going) → from m (suc rounds) ≡ from n rounds
+  after-step m n rounds e = after-first (hardened t) Undisturbed (at m going) (at n going) rounds e
 
-  catches : (m : Machine) (more : ℕ) → m .node ≡ s .nodes + 1 → from m (suc more) ≡ at (counted m) (ended Caught)
-  catches m more e =
-      after-first (hardened t) Undisturbed (at m going) (at (counted m) (ended Caught)) more
-      (step-at (hardened t) Undisturbed m stop (ap (hardenedGraph t) e ∙ catch-row t))
-      ∙ after-ended (hardened t) Undisturbed (counted m) Caught more
+  -- ---- to the catch, or past the check
 
-  -- a check of another signature
-  wrong-check : (m : Machine) (more n : ℕ) → hardenedGraph t (m .node) ≡ checkFor t n → (gsr t m ≡ signOf t n → ⊥)
-      → from m (suc (suc more)) ≡ at (counted (branchTo m (s .nodes + 1))) (ended Caught)
-  unfolding compare
-  wrong-check m more n row other =
-      after-first (hardened t) Undisturbed (at m going) (at (branchTo m (s .nodes + 1)) going) (suc more)
-      (step-at (hardened t) Undisturbed m (checkFor t n) row ∙ rw (ne-eqb (gsr t m) (signOf t n) other))
-      ∙ catches (branchTo m (s .nodes + 1)) more refl
+  catches : (m : Machine) → m .node ≡ s .nodes + 1 → from m 1 ≡ at (counted m) (ended Caught)
+  unfolding after
+  catches m e = step-at (hardened t) Undisturbed m stop (ap (hardenedGraph t) e ∙ catch-row t)
 
   -- an update prepared for another signature than the check's
-  wrong-update : (m : Machine) (more i n g v : ℕ) → length (m .registers) ≡ 64 → hardenedGraph t (m .node) ≡ update R i → hardenedGraph t i ≡ checkFor t n
+  wrong-update : (m : Machine) (then n g v : ℕ) → length (m .registers) ≡ 64 → hardenedGraph t (m .node) ≡ update R then → hardenedGraph t then ≡ checkFor t n
       → gsr t m ≡ g → rts t m ≡ bitXor g v → (v ≡ signOf t n → ⊥)
-      → from m (suc (suc (suc more))) ≡ at (counted (branchTo (setting m R v i) (s .nodes + 1))) (ended Caught)
-  unfolding operate
-  wrong-update m more i n g v full row then signed prepared other =
-      let few : R ≤ 62 = ok .in-order .few-registers in
-      let value : operate 4 (gsr t m) (rts t m) ≡ v = ap₂ (λ a b. operate 4 a b) signed prepared ∙ xor-cancel g v in
-      let new : gsr t (setting m R v i) ≡ v = getD-set-same (m .registers) R v 0 (rw full (omega arith)) in
-      after-first (hardened t) Undisturbed (at m going) (at (setting m R v i) going) (suc (suc more))
-      (step-at (hardened t) Undisturbed m (update R i) row ∙ ap (λ x. at (setting m R x i) going) value)
-      ∙ wrong-check (setting m R v i) more n then (λ e. other (sym new ∙ e))
+      → from m 3 ≡ at (counted (branchTo (setting m R v then) (s .nodes + 1))) (ended Caught)
+  unfolding compare
+  wrong-update m then n g v full row then-row signed prepared other =
+      let m′ = setting m R v then in
+      let (goes, new) = update-goes t ok m then g v full row signed prepared in
+      let fails : HardenedStep t m′ (at (branchTo m′ (s .nodes + 1)) going) =
+      step-at (hardened t) Undisturbed m′ (checkFor t n) then-row ∙ rw (ne-eqb (gsr t m′) (signOf t n) (λ e. other (sym new ∙ e))) in
+      after-step m m′ 2 goes ∙ after-step m′ (branchTo m′ (s .nodes + 1)) 1 fails ∙ catches (branchTo m′ (s .nodes + 1)) refl
 
   -- an update prepared for the check's signature
-  passes : (m : Machine) (more i n g : ℕ) → length (m .registers) ≡ 64 → hardenedGraph t (m .node) ≡ update R i → hardenedGraph t i ≡ checkFor t n
-      → gsr t m ≡ g → rts t m ≡ bitXor g (signOf t n) → from m (suc (suc more)) ≡ from (branchTo (setting m R (signOf t n) i) n) more
-  unfolding operate compare
-  passes m more i n g full row then signed prepared =
-      let few : R ≤ 62 = ok .in-order .few-registers in
-      let value : operate 4 (gsr t m) (rts t m) ≡ signOf t n = ap₂ (λ a b. operate 4 a b) signed prepared ∙ xor-cancel g (signOf t n) in
-      let m′ = setting m R (signOf t n) i in
-      let new : gsr t m′ ≡ signOf t n = getD-set-same (m .registers) R (signOf t n) 0 (rw full (omega arith)) in
-      after-first (hardened t) Undisturbed (at m going) (at m′ going) (suc more)
-      (step-at (hardened t) Undisturbed m (update R i) row ∙ ap (λ x. at (setting m R x i) going) value)
-      ∙ after-first (hardened t) Undisturbed (at m′ going) (at (branchTo m′ n) going) more
-      (step-at (hardened t) Undisturbed m′ (checkFor t n) then ∙ rw (eq-eqb (gsr t m′) (signOf t n) new))
+  passes : (m : Machine) (then n g : ℕ) → length (m .registers) ≡ 64 → hardenedGraph t (m .node) ≡ update R then → hardenedGraph t then ≡ checkFor t n
+      → gsr t m ≡ g → rts t m ≡ bitXor g (signOf t n) → from m 2 ≡ at (branchTo (setting m R (signOf t n) then) n) going
+  unfolding after
+  passes m then n g full row then-row signed prepared =
+      let m′ = setting m R (signOf t n) then in
+      let (goes, new) = update-goes t ok m then g (signOf t n) full row signed prepared in
+      after-step m m′ 1 goes ∙ check-goes t ok m′ n then-row new
 
   -- ---- the run with the branch inverted that it executes at this place
 
@@ -102,9 +88,16 @@ module _ (t : Trial) (ok : Accepted (t .source)) where
         ∙ ap (λ p. after (hardened t) (Inverted place) p more) step
         ∙ past-place (hardened t) place (at m′ going) more (omega arith)
 
-    caught-soon : (m″ : Machine) → from m′ soon ≡ at m″ (ended Caught) → m″ .reads ≡ m .reads → m″ .events ≡ m .events → CaughtSoon t place rounds
-    caught-soon m″ e reads events =
-        let run : hardenedRun t (Inverted place) (rounds + 1 + soon) ≡ at m″ (ended Caught) = inverted-run soon ∙ e in
+    -- what is caught in few enough rounds is caught soon
+    caught-soon : (few : ℕ) (m″ : Machine) → few ≤ soon → from m′ few ≡ at m″ (ended Caught) → m″ .reads ≡ m .reads → m″ .events ≡ m .events → CaughtSoon t place rounds
+    caught-soon few m″ h e reads events =
+        let split : soon ≡ few + (soon - few) = omega arith in
+        let run : hardenedRun t (Inverted place) (rounds + 1 + soon) ≡ at m″ (ended Caught) =
+        inverted-run soon
+        ∙ ap (from m′) split
+        ∙ after-add (hardened t) Undisturbed (at m′ going) few (soon - few)
+        ∙ ap (λ p. after (hardened t) Undisturbed p (soon - few)) e
+        ∙ after-ended (hardened t) Undisturbed m″ Caught (soon - few) in
         record { is-caught = rw run; no-read = rw (run, here) reads; no-event = rw (run, here) events }
 
     unchanged : (m° : Machine) → next (hardened t) Undisturbed (at m going) ≡ at m° going → from m′ 2 ≡ from m° 2 → Unchanged t place rounds
@@ -209,6 +202,14 @@ module _ (t : Trial) (ok : Accepted (t .source)) where
         by (inr e) (inl f) = absurd (omega (arith, o .inside, group-above s n))
         by (inr e) (inr f) = same (group-apart b (branch-of o) (omega arith))
 
+  -- by whether the two targets are one
+  by-targets : {place rounds n : ℕ} (b : BranchAt t n) (i : ℕ) → TestOf s n i → (b .yea ≡ b .nay → Unchanged t place rounds) → ((b .yea ≡ b .nay → ⊥) → CaughtSoon t place rounds) → AnsweredAt i place rounds
+  by-targets {place} {rounds} b i test same other = by (ℕ-discrete (b .yea) (b .nay))
+    where
+      by : Dec (b .yea ≡ b .nay) → AnsweredAt i place rounds
+      by (yes one) = inl (one-target b one i test, same one)
+      by (no two) = inr ((λ o. two (only b i test o)), other two)
+
   module _ (rounds : ℕ) (m : Machine) (here : hardenedRun t Undisturbed rounds ≡ at m going) where
     abbrev place : ℕ
     place = m .branches
@@ -220,127 +221,104 @@ module _ (t : Trial) (ok : Accepted (t .source)) where
         let m′ = branchTo m (s .nodes + 1) in
         let wrong : next (hardened t) (Inverted place) (at m going) ≡ at m′ going =
         inverted-step (hardened t) m 1 R (s .nodes + 1) (σ .node) _ false (c .row) (rw (eq-eqb (gsr t m) (signOf t (σ .node)) (c .signed))) in
-        inr (no-test (m .node) (σ .node) (c .row), caught-soon place rounds m m′ here refl wrong refl (counted m′) (catches m′ 4 refl) refl refl)
+        inr (no-test (m .node) (σ .node) (c .row), caught-soon place rounds m m′ here refl wrong refl 1 (counted m′) (omega arith) (catches m′ refl) refl refl)
 
     -- the doubled test, inverted, meets the other side's check
-    at-doubled : (σ : Machine) → Doubling t σ m → AnsweredAt (m .node) place rounds
-    unfolding after
-    at-doubled σ d = by (ℕ-discrete (b .yea) (b .nay))
-      where
-        n : ℕ
-        n = d .n
+    module _ (σ : Machine) (d : Doubling t σ m) where
+      abbrev bd : BranchAt t (d .n)
+      bd = d .way .from
 
-        w : Bool
-        w = d .w
+      abbrev ed : ℕ
+      ed = groupAt s (d .n)
 
-        b : BranchAt t n
-        b = d .way .from
+      -- the machine after the doubled test, for either outcome
+      abbrev doubled : Bool → Machine
+      doubled u = branchTo m (cond u (ed + 3) (ed + 5))
 
-        e : ℕ
-        e = groupAt s n
+      doubled-wrong : next (hardened t) (Inverted place) (at m going) ≡ at (doubled (not (d .w))) going
+      doubled-wrong =
+          inverted-step (hardened t) m (bd .comparison) (bd .left) (ed + 3) (ed + 5) (bd .right) (d .w)
+          (ap (hardenedGraph t) (d .place) ∙ doubled-row t ok bd) (way-along t ok (d .way) (d .along))
 
-        to : Bool → Machine
-        to u = branchTo m (cond u (e + 3) (e + 5))
+      -- with one target both sides come to it alike
+      doubled-joins : bd .yea ≡ bd .nay → (u : Bool) → from (doubled u) 2 ≡ at (branchTo (setting (doubled true) R (signOf t (σ .node)) 0) (σ .node)) going
+      doubled-joins one u =
+          let there : σ .node ≡ side bd u = d .way .target ∙ together bd one (d .w) u in
+          passes (doubled u) (cond u (ed + 4) (ed + 6)) (σ .node) (signOf t (d .n)) (d .along .full) (update-row t ok bd u)
+          (check-row t ok bd u ∙ ap (checkFor t) (sym there)) (d .signed) (d .prepared)
 
-        test : TestOf s n (m .node)
-        test = subst (TestOf s n) (sym (d .place)) again
+      doubled-unchanged : bd .yea ≡ bd .nay → Unchanged t place rounds
+      doubled-unchanged one =
+          unchanged place rounds m (doubled (not (d .w))) here refl doubled-wrong refl (doubled (d .w))
+          (double-goes t ok (d .way) (d .along) (d .place)) (doubled-joins one (not (d .w)) ∙ sym (doubled-joins one (d .w)))
 
-        wrong : next (hardened t) (Inverted place) (at m going) ≡ at (to (not w)) going
-        wrong = inverted-step (hardened t) m (b .comparison) (b .left) (e + 3) (e + 5) (b .right) w (ap (hardenedGraph t) (d .place) ∙ doubled-row t ok b) (way-along t ok (d .way) (d .along))
+      doubled-caught : (bd .yea ≡ bd .nay → ⊥) → CaughtSoon t place rounds
+      doubled-caught two =
+          let w = not (d .w) in
+          let run = wrong-update (doubled w) (cond w (ed + 4) (ed + 6)) (side bd w) (signOf t (d .n)) (signOf t (σ .node)) (d .along .full)
+          (update-row t ok bd w) (check-row t ok bd w) (d .signed) (d .prepared) (λ q. apart bd (d .w) two (sym q ∙ ap (signOf t) (d .way .target))) in
+          caught-soon place rounds m (doubled w) here refl doubled-wrong refl 3 _ (omega arith) run refl refl
 
-        by : Dec (b .yea ≡ b .nay) → AnsweredAt (m .node) place rounds
-        by (yes one) = inl (one-target b one (m .node) test, unchanged place rounds m (to (not w)) here refl wrong refl (to w) (double-goes t ok (d .way) (d .along) (d .place)) meet)
-          where
-            joins : (u : Bool) → from (to u) 2 ≡ at (branchTo (setting (to true) R (signOf t (σ .node)) 0) (σ .node)) going
-            joins u =
-                let there : σ .node ≡ side b u = d .way .target ∙ together b one w u in
-                passes (to u) 0 (cond u (e + 4) (e + 6)) (σ .node) (signOf t n) (d .along .full) (update-row t ok b u) (check-row t ok b u ∙ ap (checkFor t) (sym there)) (d .signed) (d .prepared)
-
-            meet : from (to (not w)) 2 ≡ from (to w) 2
-            meet = joins (not w) ∙ sym (joins w)
-        by (no two) =
-            inr (
-              (λ o. two (only b (m .node) test o)),
-              caught-soon place rounds m (to (not w)) here refl wrong refl _
-                  (wrong-update (to (not w)) 2 (cond (not w) (e + 4) (e + 6)) (side b (not w)) (signOf t n) (signOf t (σ .node)) (d .along .full) (update-row t ok b (not w)) (check-row t ok b (not w)) (d .signed) (d .prepared)
-                  (λ q. apart b w two (sym q ∙ ap (signOf t) (d .way .target))))
-                  refl refl,
-            )
+      at-doubled : AnsweredAt (m .node) place rounds
+      at-doubled = by-targets bd (m .node) (subst (TestOf s (d .n)) (sym (d .place)) again) doubled-unchanged doubled-caught
 
     -- the first test, inverted, prepares the other target's signature
-    at-first : (σ : Machine) → AtSource t σ m → (b : BranchAt t (σ .node)) → AnsweredAt (m .node) place rounds
-    at-first σ a b = by (ℕ-discrete (b .yea) (b .nay))
-      where
-        n : ℕ
-        n = σ .node
+    module _ (σ : Machine) (a : AtSource t σ m) (b : BranchAt t (σ .node)) where
+      abbrev e : ℕ
+      e = groupAt s (σ .node)
 
-        e : ℕ
-        e = groupAt s n
+      abbrev w : Bool
+      w = compare (b .comparison) (get σ (b .left)) (operandOf σ (b .right))
 
-        w : Bool
-        w = compare (b .comparison) (get σ (b .left)) (operandOf σ (b .right))
+      -- the machine after the first test, and after the preparing node, for either outcome
+      abbrev parted : Bool → Machine
+      parted u = branchTo m (cond u e (e + 1))
 
-        way : Way t n w (branchTo σ (side b w))
-        way = way-from t ok σ b w refl
+      abbrev difference : Bool → ℕ
+      difference u = bitXor (signOf t (σ .node)) (signOf t (side b u))
 
-        to : Bool → Machine
-        to u = branchTo m (cond u e (e + 1))
+      abbrev prepared : Bool → Machine
+      prepared u = setting (parted u) (R + 1) (difference u) (e + 2)
 
-        prepared : Bool → Machine
-        prepared u = setting (to u) (R + 1) (bitXor (signOf t n) (signOf t (side b u))) (e + 2)
+      goes : compare (b .comparison) (get m (b .left)) (operandOf m (b .right)) ≡ w
+      goes = let inside = branch-in t ok b in test-along t ok (a .along) (b .comparison) (b .left) (b .right) (inside .1) (inside .2)
 
-        test : TestOf s n (m .node)
-        test = subst (TestOf s n) (sym (a .node)) first
+      row : hardenedGraph t (m .node) ≡ branch (b .comparison) (b .left) (b .right) e (e + 1)
+      row = ap (hardenedGraph t) (a .node) ∙ branch-row t ok b
 
-        goes : compare (b .comparison) (get m (b .left)) (operandOf m (b .right)) ≡ w
-        goes = let inside = branch-in t ok b in test-along t ok (a .along) (b .comparison) (b .left) (b .right) (inside .1) (inside .2)
+      first-wrong : next (hardened t) (Inverted place) (at m going) ≡ at (parted (not w)) going
+      first-wrong = inverted-step (hardened t) m (b .comparison) (b .left) e (e + 1) (b .right) w row goes
 
-        row : hardenedGraph t (m .node) ≡ branch (b .comparison) (b .left) (b .right) e (e + 1)
-        row = ap (hardenedGraph t) (a .node) ∙ branch-row t ok b
+      first-right : HardenedStep t m (at (parted w) going)
+      first-right = step-at (hardened t) Undisturbed m (branch (b .comparison) (b .left) (b .right) e (e + 1)) row ∙ rw goes
 
-        wrong : next (hardened t) (Inverted place) (at m going) ≡ at (to (not w)) going
-        wrong = inverted-step (hardened t) m (b .comparison) (b .left) e (e + 1) (b .right) w row goes
+      prepares : (u : Bool) (more : ℕ) → from (parted u) (suc more) ≡ from (prepared u) more
+      prepares u more = after-step (parted u) (prepared u) more (prepare-goes t ok (parted u) b u (fork e u))
 
-        right : next (hardened t) Undisturbed (at m going) ≡ at (to w) going
-        right = step-at (hardened t) Undisturbed m (branch (b .comparison) (b .left) (b .right) e (e + 1)) row ∙ rw goes
+      -- with one target the preparing nodes do the same
+      first-unchanged : b .yea ≡ b .nay → Unchanged t place rounds
+      first-unchanged one =
+          let meet : from (parted (not w)) 2 ≡ from (parted w) 2 =
+          prepares (not w) 1
+          ∙ ap (λ k. from (setting (parted true) (R + 1) (bitXor (signOf t (σ .node)) (signOf t k)) (e + 2)) 1) (together b one (not w) w)
+          ∙ sym (prepares w 1) in
+          unchanged place rounds m (parted (not w)) here refl first-wrong refl (parted w) first-right meet
 
-        prepares : (u : Bool) (more : ℕ) → from (to u) (suc more) ≡ from (prepared u) more
-        prepares u more = after-first (hardened t) Undisturbed (at (to u) going) (at (prepared u) going) more (prepare-goes t ok (to u) b u (fork e u))
+      first-caught : (b .yea ≡ b .nay → ⊥) → CaughtSoon t place rounds
+      first-caught two =
+          let u = not w in
+          let along = both-along t ok (a .along) (side b w) (cond u e (e + 1)) in
+          let again = branchTo (prepared u) (cond w (e + 3) (e + 5)) in
+          let run = prepares u 4
+          ∙ after-step (prepared u) again 3 (double-goes t ok (way-from t ok σ b w refl) (set-along t ok along (R + 1) (difference u) (e + 2) (omega arith)) refl)
+          ∙ wrong-update again (cond w (e + 4) (e + 6)) (side b w) (signOf t (σ .node)) (signOf t (side b u))
+          (set-along t ok along (R + 1) (difference u) (e + 2) (omega arith) .full) (update-row t ok b w) (check-row t ok b w)
+          (gsr-kept t ok (parted u) (difference u) (e + 2) ∙ a .signed) (set-same t ok along (R + 1) (difference u) (e + 2) (omega (arith, ok .in-order .few-registers)))
+          (apart b w two) in
+          caught-soon place rounds m (parted u) here refl first-wrong refl 5 _ (omega arith) run refl refl
 
-        by : Dec (b .yea ≡ b .nay) → AnsweredAt (m .node) place rounds
-        by (yes one) = inl (one-target b one (m .node) test, unchanged place rounds m (to (not w)) here refl wrong refl (to w) right meet)
-          where
-            meet : from (to (not w)) 2 ≡ from (to w) 2
-            meet =
-                prepares (not w) 1
-                ∙ ap (λ k. from (setting (to true) (R + 1) (bitXor (signOf t n) (signOf t k)) (e + 2)) 1) (together b one (not w) w)
-                ∙ sym (prepares w 1)
-        by (no two) =
-            inr (
-              (λ o. two (only b (m .node) test o)),
-              caught-soon place rounds m (to (not w)) here refl wrong refl _
-                  (prepares (not w) 4
-                  ∙ after-first (hardened t) Undisturbed (at (prepared (not w)) going) (at tested-again going) 3 (double-goes t ok way along refl)
-                  ∙ wrong-update tested-again 0 (cond w (e + 4) (e + 6)) (side b w) (signOf t n) (signOf t (side b (not w))) (along .full) (update-row t ok b w) (check-row t ok b w)
-                  (gsr-kept t ok (to (not w)) v (e + 2) ∙ a .signed) ready
-                  (apart b w two))
-                  refl refl,
-            )
-          where
-            v : ℕ
-            v = bitXor (signOf t n) (signOf t (side b (not w)))
-
-            parted : Along t (branchTo σ (side b w)) (to (not w))
-            parted = both-along t ok (a .along) (side b w) (cond (not w) e (e + 1))
-
-            along : Along t (branchTo σ (side b w)) (prepared (not w))
-            along = set-along t ok parted (R + 1) v (e + 2) (omega arith)
-
-            tested-again : Machine
-            tested-again = branchTo (prepared (not w)) (cond w (e + 3) (e + 5))
-
-            ready : rts t (prepared (not w)) ≡ v
-            ready = set-same t ok parted (R + 1) v (e + 2) (omega (arith, ok .in-order .few-registers))
+      at-first : AnsweredAt (m .node) place rounds
+      at-first = by-targets b (m .node) (subst (TestOf s (σ .node)) (sym (a .node)) first) first-unchanged first-caught
 
     module _ (branching : isBranch (hardenedGraph t (m .node)) ≡ true) where
       no-branch : (node : Node) → hardenedGraph t (m .node) ≡ node → isBranch node ≡ false → AnsweredAt (m .node) place rounds

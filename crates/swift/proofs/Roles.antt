@@ -217,27 +217,36 @@ module _ (t : Trial) (ok : Accepted (t .source)) where
 
   -- ---- one step from each role
 
-  pub check-step : {σ m : Machine} → Checking t σ m → Onward t m (AtSource t σ)
+  -- a check of the signature that is in GSR goes on
+  pub check-goes : (m : Machine) (n : ℕ) → hardenedGraph t (m .node) ≡ checkFor t n → gsr t m ≡ signOf t n → HardenedStep t m (at (branchTo m n) going)
   unfolding compare
+  check-goes m n row signed =
+      step-at (hardened t) Undisturbed m (checkFor t n) row ∙ rw (eq-eqb (gsr t m) (signOf t n) signed)
+
+  pub check-step : {σ m : Machine} → Checking t σ m → Onward t m (AtSource t σ)
   check-step {σ} {m} c = (
     branchTo m (σ .node),
-    step-at (hardened t) Undisturbed m (checkFor t (σ .node)) (c .row) ∙ rw (eq-eqb (gsr t m) (signOf t (σ .node)) (c .signed)),
+    check-goes m (σ .node) (c .row) (c .signed),
     record { along = branch-along (c .along) (σ .node); inside = c .inside; node = refl; signed = c .signed },
   )
 
-  pub update-step : {σ m : Machine} → Updating t σ m → Onward t m (Checking t σ)
+  -- an update puts the signature into GSR that RTS was prepared for
+  pub update-goes : (m : Machine) (then g v : ℕ) → length (m .registers) ≡ 64 → hardenedGraph t (m .node) ≡ update R then → gsr t m ≡ g → rts t m ≡ bitXor g v
+      → HardenedStep t m (at (setting m R v then) going) × (gsr t (setting m R v then) ≡ v)
   unfolding operate
+  update-goes m then g v full row signed prepared =
+      let value : operate 4 (gsr t m) (rts t m) ≡ v = ap₂ (λ a b. operate 4 a b) signed prepared ∙ xor-cancel g v in (
+        step-at (hardened t) Undisturbed m (update R then) row ∙ ap (λ x. at (setting m R x then) going) value,
+        getD-set-same (m .registers) R v 0 (rw full (omega (arith, few))),
+      )
+
+  pub update-step : {σ m : Machine} → Updating t σ m → Onward t m (Checking t σ)
   update-step {σ} {m} u =
-      let value : operate 4 (gsr t m) (rts t m) ≡ signOf t (σ .node) =
-      ap₂ (λ a b. operate 4 a b) (u .signed) (u .prepared) ∙ xor-cancel (u .from) (signOf t (σ .node)) in (
-        setting m R (signOf t (σ .node)) (u .then),
-        step-at (hardened t) Undisturbed m (update R (u .then)) (u .row) ∙ ap (λ v. at (setting m R v (u .then)) going) value,
-        record {
-          along = set-along (u .along) R (signOf t (σ .node)) (u .then) (omega arith);
-          inside = u .inside;
-          row = u .then-row;
-          signed = set-same (u .along) R (signOf t (σ .node)) (u .then) (omega (arith, few));
-        },
+      let v = signOf t (σ .node) in
+      let (goes, new) = update-goes m (u .then) (u .from) v (u .along .full) (u .row) (u .signed) (u .prepared) in (
+        setting m R v (u .then),
+        goes,
+        record { along = set-along (u .along) R v (u .then) (omega arith); inside = u .inside; row = u .then-row; signed = new },
       )
 
   pub prepare-step : {σ m : Machine} → Preparing t σ m → Onward t m (Updating t σ)
