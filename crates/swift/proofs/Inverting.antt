@@ -139,7 +139,7 @@ module _ (t : Trial) (ok : Accepted (t .source)) where
       by (no d) (no d′) = (omega arith, omega arith)
 
   abbrev branch-of : {i : ℕ} (o : OneTarget s i) → BranchAt t (o .node)
-  branch-of o = record { here = o .inside; comparison = o .comparison; left = o .left; right = o .right; yea = o .target; nay = o .target; is-branch = o .is-branch }
+  branch-of o = record { here = o .inside; comparison = o .comparison; left = o .left; right = o .right; yea = o .yea; nay = o .nay; is-branch = o .is-branch }
 
   -- a node that makes a source branch's test compares a source register, and a check compares GSR
   no-test : (i n : ℕ) → hardenedGraph t i ≡ checkFor t n → OneTarget s i → ⊥
@@ -182,8 +182,10 @@ module _ (t : Trial) (ok : Accepted (t .source)) where
       comparison = b .comparison;
       left = b .left;
       right = b .right;
-      target = b .yea;
-      is-branch = b .is-branch ∙ ap (branch (b .comparison) (b .left) (b .right) (b .yea)) (sym e);
+      yea = b .yea;
+      nay = b .nay;
+      is-branch = b .is-branch;
+      one-node = cc;
     }
 
     -- a test of the branch at n is one of no other branch
@@ -194,7 +196,7 @@ module _ (t : Trial) (ok : Accepted (t .source)) where
         k = o .node
 
         same : n ≡ k → b .yea ≡ b .nay
-        same e = cc (b .is-branch, ap (s .graph) e, o .is-branch)
+        same e = cc (b .is-branch, ap (s .graph) e, o .is-branch, o .one-node)
 
         by : (i ≡ n) ⊎ (i ≡ groupAt s n + 2) → (i ≡ k) ⊎ (i ≡ groupAt s k + 2) → b .yea ≡ b .nay
         by (inl e) (inl f) = same (sym e ∙ f)

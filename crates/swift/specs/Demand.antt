@@ -127,8 +127,10 @@ pub record OneTarget (s : Source) (i : ℕ) : Type 0 where
   pub comparison : ℕ
   pub left : ℕ
   pub right : Operand
-  pub target : ℕ
-  pub is-branch : s .graph node ≡ branch comparison left right target target
+  pub yea : ℕ
+  pub nay : ℕ
+  pub is-branch : s .graph node ≡ branch comparison left right yea nay
+  pub one-node : yea ≡ nay
 
 -- the second half of demand 3, for the branch that the undisturbed hardened run executes in the round after these
 abbrev pub Answered : Trial → ℕ → ℕ → Type 0
