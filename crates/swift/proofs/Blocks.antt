@@ -4,15 +4,14 @@
 use mathlib.Core.Path.{_≡_, refl, sym, ap, _∙_}
 use mathlib.Core.Logic.{_⊎_, inl, inr}
 use mathlib.Core.Bool.{Bool, true, false, cond, _||_, or-true}
-use mathlib.Core.List.{List, [], _∷_, List·Memᴰ, List·Memᴰ·head, List·Memᴰ·tail}
+use mathlib.Core.List.{List, List·Memᴰ, List·Memᴰ·head, List·Memᴰ·tail}
 use Prim.Native.Nat.{ℕ, zero, suc, _+_, _≤_, _<_}
 use native.Mathlib.Nat.{eq-or-lt-of-le, le-of-suc-le-suc, not-suc-le-zero}
 use native.Mathlib.Decide.{decLt}
-use native.Mathlib.Numerals.{add-one}
 use native.Mathlib.Omega.{arith}
 use lib.Dec.{eqb, ltb, leb}
 use borrow.Author.Tests.{eq-eqb, lt-ltb, le-ltb, leb-false}
-use Rattle.graph.specs.Nodes.{Node, go, branch, ret, stop, Action, Operand, targets}
+use Rattle.graph.specs.Nodes.{Node, go, branch, Action, Operand, targets}
 use Rattle.graph.specs.Paths.{PathIn, start, onward}
 use Rattle.graph.specs.Accepted.{SourceGraph}
 use Rattle.graph.proofs.Reached.{targets-inside}
@@ -81,7 +80,8 @@ module _ (graph : ℕ → Node) (nodes entry : ℕ) where
   pub came-from : (n m : ℕ) → leader graph nodes entry n ≡ false → m < nodes → 0 < among (targets (graph m)) n → predecessor graph nodes n ≡ m
   unfolding leader
   came-from n m h l a =
-      let rest = or-none (branchTo graph nodes n) (leb 2 (edgesInto graph nodes n)) (or-none (eqb n entry) (branchTo graph nodes n || leb 2 (edgesInto graph nodes n)) h .1) in
+      let one = or-none (eqb n entry) (branchTo graph nodes n || leb 2 (edgesInto graph nodes n)) h .1 in
+      let rest = or-none (branchTo graph nodes n) (leb 2 (edgesInto graph nodes n)) one in
       predecessor-is graph n m nodes l a (leb-false 2 (edgesInto graph nodes n) (rest .1))
 
   module _ (entry-in : entry < nodes) (targets-in : (m n : ℕ) → m < nodes → List·Memᴰ n (targets (graph m)) → n < nodes) where

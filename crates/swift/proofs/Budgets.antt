@@ -2,11 +2,10 @@
 -- that it executes has a round; and with five steps left after that round the run with the branch inverted ends caught.
 -- Assumes nothing.
 use mathlib.Core.Path.{_≡_, refl, sym, ap, _∙_}
-use mathlib.Core.Logic.{_⊎_, inl, inr}
-use mathlib.Core.Bool.{Bool, true, false, cond}
+use mathlib.Core.Bool.{Bool, true, false}
 use mathlib.Core.Option.{Option, none, some}
 use Prim.Native.Nat.{ℕ, zero, suc, _+_, _-_, _≤_, _<_}
-use native.Mathlib.Nat.{not-suc-le-zero, add-suc}
+use native.Mathlib.Nat.{not-suc-le-zero}
 use native.Mathlib.Decide.{decLt}
 use native.Mathlib.Omega.{arith}
 use Rattle.graph.specs.Nodes.{Node, go, branch, ret, stop, const, op, input, output}
@@ -17,11 +16,10 @@ use Rattle.bench.specs.declared.Fault.{Fault}
 use Rattle.bench.specs.declared.Fault.the-variants.{Undisturbed, Inverted}
 use Rattle.bench.specs.declared.Outcome.{Outcome}
 use Rattle.bench.specs.declared.Outcome.the-variants.{Returned, Caught, Spent, Full}
-use Rattle.swift.specs.Demand.{Trial, hardened, hardenedGraph, sourceRun, hardenedRun, hardenedSteps, stopping, beside, Follows, Executes, soon, CaughtBy, CaughtSoon, Unchanged, OneTarget, Answered}
+use Rattle.swift.specs.Demand.{Trial, hardened, hardenedGraph, sourceRun, hardenedRun, hardenedSteps, stopping, beside, Executes, CaughtBy}
 use Rattle.swift.proofs.Rounds.{after-add, after-ended, before-place, next-grown, after-grown, steps-going, branch-counted}
 use Rattle.swift.proofs.Roles.{Accepted}
-use Rattle.swift.proofs.Following.{follows, hardened-next}
-use Rattle.swift.proofs.Inverting.{answered}
+use Rattle.swift.proofs.Following.{follows}
 
 -- a place that is never reached changes nothing about a run
 pub never-reached : (s : Setting) (entry budget place : ℕ) → runOf s Undisturbed entry budget .machine .branches ≤ place → runOf s (Inverted place) entry budget ≡ runOf s Undisturbed entry budget

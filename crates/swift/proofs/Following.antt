@@ -3,25 +3,24 @@
 -- Assumes nothing.
 use mathlib.Core.Path.{_≡_, refl, sym, ap, ap₂, _∙_}
 use mathlib.Core.Bool.{Bool, true, false, cond, _&&_, and-true, and-false}
-use Prim.Native.Nat.{ℕ, zero, suc, _+_, _*_, _≤_, _<_}
-use native.Mathlib.Nat.{add-zero, add-suc, zero-add}
-use native.Mathlib.Numerals.{add-one}
+use Prim.Native.Nat.{ℕ, zero, suc, _+_, _*_, _≤_}
+use native.Mathlib.Nat.{add-zero, zero-add}
 use native.Mathlib.Omega.{arith}
-use lib.ListN.{length, take, set, replicate, length-set, length-replicate}
+use lib.ListN.{replicate, length-set, length-replicate}
 use lib.Seq.{take-set-le, getD-set-same}
 use lib.Dec.{ltb}
 use borrow.Author.Tests.{lt-ltb, le-ltb}
-use Rattle.harden.specs.Hardened.{Source, sign, crossing, firstRow}
-use Rattle.bench.specs.Steps.{Machine, Setting, Status, going, ended, Progress, at, start, setting, counted}
+use Rattle.harden.specs.Hardened.{crossing, firstRow}
+use Rattle.bench.specs.Steps.{Machine, Status, going, ended, Progress, at, start, setting, counted}
 use Rattle.bench.specs.Runs.{next, after, runOf}
 use Rattle.bench.specs.declared.Fault.{Fault}
-use Rattle.bench.specs.declared.Fault.the-variants.{Undisturbed, Inverted}
+use Rattle.bench.specs.declared.Fault.the-variants.{Undisturbed}
 use Rattle.bench.specs.declared.Outcome.{Outcome}
-use Rattle.bench.specs.declared.Outcome.the-variants.{Returned, Caught, Spent, Full}
-use Rattle.swift.specs.Demand.{Trial, plain, hardened, hardenedGraph, sourceRun, hardenedRun, crossings, when, hardenedSteps, stopping, beside, Agree, Follows}
+use Rattle.bench.specs.declared.Outcome.the-variants.{Returned}
+use Rattle.swift.specs.Demand.{Trial, plain, hardened, sourceRun, hardenedRun, crossings, when, hardenedSteps, stopping, beside, Agree, Follows}
 use Rattle.swift.proofs.Rows.{first-row}
-use Rattle.swift.proofs.Rounds.{step-at, next-ended, steps-going, going-before}
-use Rattle.swift.proofs.Roles.{Accepted, gsr, signOf, Along, AtSource, Checking, Updating, Preparing, Tested, Doubling, SourceStep, HardenedStep, Moved, Departs, walks, jumps, tests, ends, stops, Onward, check-step, update-step, prepare-step, tested-step, doubling-step, depart}
+use Rattle.swift.proofs.Rounds.{step-at, next-ended, steps-going}
+use Rattle.swift.proofs.Roles.{Accepted, signOf, AtSource, SourceStep, HardenedStep, Moved, Departs, walks, jumps, tests, ends, stops, check-step, update-step, prepare-step, tested-step, doubling-step, depart}
 
 -- ---- rounds of the two runs
 

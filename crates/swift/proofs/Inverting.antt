@@ -1,34 +1,29 @@
 -- The second half of demand 3: an inverted branch is caught within five further steps with no read or event in between, but
 -- for a doubled test whose two targets are one node, where two steps later the run is exactly the undisturbed one.
 -- Assumes nothing.
-use mathlib.Core.Path.{_≡_, refl, sym, ap, ap₂, _∙_, subst}
+use mathlib.Core.Path.{_≡_, refl, sym, ap, _∙_, subst}
 use mathlib.Core.Logic.{_⊎_, inl, inr}
 use mathlib.Core.Bool.{Bool, true, false, cond, not}
-use Prim.Native.Nat.{ℕ, zero, suc, _+_, _-_, _≤_, _<_}
+use Prim.Native.Nat.{ℕ, suc, _+_, _-_, _≤_, _<_}
 use native.Mathlib.Numerals.{add-one}
 use native.Mathlib.Decide.{ℕ-discrete, decLt}
 use native.Mathlib.Omega.{arith}
 use lib.ListN.{length}
-use lib.Seq.{getD-set-same}
 use lib.Bits.{bitXor}
-use lib.Dec.{eqb}
 use borrow.Author.Tests.{eq-eqb, ne-eqb}
-use Rattle.graph.specs.Nodes.{Node, go, branch, ret, stop, Operand}
-use Rattle.graph.specs.Accepted.{NodeIn}
-use Rattle.harden.specs.Hardened.{Source, isBranch, sign, groupAt, prepare, update, firstRow}
-use Rattle.bench.specs.Words.{operate, compare}
-use Rattle.bench.specs.Steps.{Machine, Setting, Status, going, ended, Progress, at, start, get, operandOf, setting, branchTo, counted}
+use Rattle.graph.specs.Nodes.{Node, go, branch, ret, stop}
+use Rattle.harden.specs.Hardened.{Source, isBranch, groupAt, update, firstRow}
+use Rattle.bench.specs.Words.{compare}
+use Rattle.bench.specs.Steps.{Machine, going, ended, Progress, at, start, get, operandOf, setting, branchTo, counted}
 use Rattle.bench.specs.Runs.{next, after, runOf}
-use Rattle.bench.specs.declared.Fault.{Fault}
 use Rattle.bench.specs.declared.Fault.the-variants.{Undisturbed, Inverted}
 use Rattle.bench.specs.declared.Outcome.the-variants.{Caught}
 use Rattle.harden.proofs.Rows.{own}
 use Rattle.swift.specs.Demand.{Trial, hardened, hardenedGraph, hardenedRun, Executes, soon, CaughtSoon, Unchanged, TestOf, first, again, OneTarget, Answered}
-use Rattle.swift.proofs.Xor.{xor-cancel}
 use Rattle.swift.proofs.Rows.{own-row, first-row, catch-row, extraOf, group-order, group-above}
 use Rattle.swift.proofs.Blocks.{sign-apart, targets-lead}
 use Rattle.swift.proofs.Rounds.{after-add, after-first, after-ended, step-at, before-place, past-place, inverted-step}
-use Rattle.swift.proofs.Roles.{Accepted, gsr, rts, signOf, checkFor, Along, AtSource, Checking, Updating, Preparing, Tested, Doubling, BranchAt, side, Way, branch-in, branch-row, prepare-row, update-row, check-row, doubled-row, way-along, test-along, set-along, both-along, set-same, gsr-kept, fork, way-from, HardenedStep, check-goes, update-goes, prepare-goes, double-goes}
+use Rattle.swift.proofs.Roles.{Accepted, gsr, rts, signOf, checkFor, AtSource, Checking, Doubling, BranchAt, side, branch-in, branch-row, prepare-row, update-row, check-row, doubled-row, way-along, test-along, set-along, both-along, set-same, gsr-kept, fork, way-from, HardenedStep, check-goes, update-goes, prepare-goes, double-goes}
 use Rattle.swift.proofs.Standing.{Standing, starting, at-source, tested, doubling, preparing, updating, checking, standing}
 
 module _ (t : Trial) (ok : Accepted (t .source)) where

@@ -1,32 +1,28 @@
 -- Demand 3 in terms of what the functions promise: of a table that `check_source` accepts and of the buffer that `harden` fills,
 -- for what `run` and `campaign` answer; first for any plan with distinct signatures, then for 1 plus rank.
 -- Assumes nothing.
-use mathlib.Core.Path.{_≡_, refl, sym, ap, _∙_}
+use mathlib.Core.Path.{_≡_, refl, ap, _∙_}
 use mathlib.Core.Logic.{_⊎_, inl, inr}
-use mathlib.Core.Bool.{true}
 use mathlib.Core.List.{List, _++_}
 use Prim.Native.Nat.{ℕ, _+_, _*_, _≤_, _<_}
 use native.Mathlib.Omega.{arith}
 use lib.ListN.{length, drop}
-use lib.Dec.{leb, eqb}
 use borrow.Author.Tests.{le-leb, eq-eqb}
-use Rattle.words.specs.Answer.{Answer, given, refused, demand, andThen, written}
+use Rattle.words.specs.Answer.{given}
 use Rattle.words.specs.Buffer.{over}
 use Rattle.graph.specs.Nodes.{nodeAt}
-use Rattle.graph.specs.Checks.{runnableCheck, sourceCheck}
-use Rattle.graph.specs.declared.Header.{Header}
+use Rattle.graph.specs.Checks.{sourceCheck}
 use Rattle.graph.proofs.Facts.{source-facts, path-short, source-runnable}
 use Rattle.harden.specs.Blocks.{Plan, onePlusRank}
 use Rattle.harden.specs.Hardened.{Source, hardenedCount, hardenedTable, sourceOf, hardenAnswer, hardenOutput}
-use Rattle.bench.specs.Steps.{Machine, Setting, Status, going, ended, Progress}
-use Rattle.bench.specs.Runs.{settled, runOf, mostSteps, runAnswer}
+use Rattle.bench.specs.Steps.{ended}
+use Rattle.bench.specs.Runs.{settled, mostSteps, runAnswer}
 use Rattle.bench.specs.Campaigns.{classAt, scoreBelow, scoreOf, campaignAnswer, harmless, caught}
 use Rattle.bench.specs.declared.Fault.{Fault}
 use Rattle.bench.specs.declared.Fault.the-variants.{Undisturbed, Inverted}
 use Rattle.bench.specs.declared.Outcome.{Outcome}
-use Rattle.bench.specs.declared.Outcome.the-variants.{Returned}
 use Rattle.bench.specs.declared.Score.{Score}
-use Rattle.swift.specs.Demand.{Distinct, Trial, hardened, hardenedGraph, sourceRun, hardenedRun, hardenedSteps, beside, Follows, Executes, soon, CaughtBy, Unchanged, OneTarget, Answered, Returns, TestAt, Covered}
+use Rattle.swift.specs.Demand.{Distinct, Trial, hardened, hardenedGraph, sourceRun, hardenedRun, hardenedSteps, beside, Follows, Executes, soon, CaughtBy, OneTarget, Answered, Returns, TestAt, Covered}
 use Rattle.swift.proofs.Roles.{Accepted}
 use Rattle.swift.proofs.Following.{follows}
 use Rattle.swift.proofs.Inverting.{answered}

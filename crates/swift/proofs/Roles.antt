@@ -2,28 +2,28 @@
 -- each to the next. `σ` is the source's machine that the hardened machine `m` stands beside, or is on its way to.
 -- Assumes nothing.
 use mathlib.Core.Path.{_≡_, refl, sym, ap, ap₂, _∙_}
-use mathlib.Core.Bool.{Bool, true, false, cond, not}
-use mathlib.Core.List.{List, [], _∷_, _++_}
+use mathlib.Core.Bool.{Bool, true, false, cond}
+use mathlib.Core.List.{[], _∷_, _++_}
 use mathlib.Core.Option.{Option, none, some}
-use Prim.Native.Nat.{ℕ, zero, suc, _+_, _≤_, _<_}
+use Prim.Native.Nat.{ℕ, _+_, _≤_, _<_}
 use native.Mathlib.Nat.{add-zero}
 use native.Mathlib.Omega.{arith}
 use lib.ListN.{length, getD, take, set, length-set}
 use lib.Seq.{take-set-le, take-set-lt, getD-take, getD-set-same, getD-set-other}
 use lib.Bits.{bitXor}
-use lib.Dec.{eqb, leb}
+use lib.Dec.{leb}
 use borrow.Author.Tests.{eq-eqb}
 use Rattle.graph.specs.Nodes.{Node, go, branch, ret, stop, Action, const, op, input, output, Operand, register, constant}
 use Rattle.graph.specs.Paths.{PathIn}
 use Rattle.graph.specs.Accepted.{ActionIn, OperandIn, NodeIn, NoCatch, SourceGraph}
 use Rattle.harden.specs.Hardened.{Source, isLeader, sign, crossing, groupAt, prepare, update, check, branchGroup, crossingGroup}
 use Rattle.bench.specs.Words.{operate, compare}
-use Rattle.bench.specs.Steps.{Machine, Setting, Status, going, ended, Progress, at, get, operandOf, setting, act, branchTo, counted, stopped, execute, unless}
+use Rattle.bench.specs.Steps.{Machine, going, ended, Progress, at, get, operandOf, setting, act, branchTo, counted, stopped, unless}
 use Rattle.bench.specs.Runs.{next}
 use Rattle.bench.specs.declared.Fault.the-variants.{Undisturbed}
 use Rattle.bench.specs.declared.Outcome.{Outcome}
-use Rattle.bench.specs.declared.Outcome.the-variants.{Returned, Caught, Spent, Full}
-use Rattle.swift.specs.Demand.{Trial, Distinct, plain, hardened, hardenedGraph, stopping, Agree}
+use Rattle.bench.specs.declared.Outcome.the-variants.{Returned, Full}
+use Rattle.swift.specs.Demand.{Trial, Distinct, plain, hardened, hardenedGraph, stopping}
 use Rattle.swift.proofs.Xor.{xor-cancel}
 use Rattle.swift.proofs.Rows.{own-row, extra-row, extraOf}
 use Rattle.swift.proofs.Blocks.{same-sign}

@@ -3,23 +3,21 @@
 use mathlib.Core.Path.{_≡_, refl, sym, ap, _∙_}
 use mathlib.Core.Bool.{Bool, true, false, cond, not}
 use mathlib.Core.Option.{Option, none, some}
-use mathlib.Core.Logic.{_⊎_, inl, inr}
 use Prim.Native.Nat.{ℕ, zero, suc, _+_, _≤_, _<_}
 use mathlib.Core.List.{List, [], _∷_, _++_, append-assoc, append-nil}
 use native.Mathlib.Nat.{add-zero, add-suc}
-use native.Mathlib.Numerals.{add-one}
 use native.Mathlib.Omega.{arith}
-use lib.Dec.{eqb, leb}
+use lib.Dec.{eqb}
 use borrow.Author.Tests.{ne-eqb, eq-eqb}
-use Rattle.graph.specs.Nodes.{Node, go, branch, ret, stop, Action, const, op, input, output, Operand}
+use Rattle.graph.specs.Nodes.{Node, go, branch, ret, stop, const, op, input, output, Operand}
 use Rattle.harden.specs.Hardened.{isBranch}
 use Rattle.bench.specs.Words.{compare}
-use Rattle.bench.specs.Steps.{Machine, Setting, Status, going, ended, Progress, at, start, step, get, operandOf, act, branchTo, counted, inverts, flip, stopped, execute, unless}
-use Rattle.bench.specs.Runs.{nextOf, next, after, runOf}
+use Rattle.bench.specs.Steps.{Machine, Setting, Status, going, ended, Progress, at, step, get, operandOf, branchTo, counted, stopped, execute, unless}
+use Rattle.bench.specs.Runs.{nextOf, next, after}
 use Rattle.bench.specs.declared.Fault.{Fault}
 use Rattle.bench.specs.declared.Fault.the-variants.{Undisturbed, Inverted}
 use Rattle.bench.specs.declared.Outcome.{Outcome}
-use Rattle.bench.specs.declared.Outcome.the-variants.{Returned, Caught, Spent, Full}
+use Rattle.bench.specs.declared.Outcome.the-variants.{Returned, Caught}
 
 module _ (s : Setting) (fault : Fault) where
   pub after-add : (p : Progress) (a b : ℕ) → after s fault p (a + b) ≡ after s fault (after s fault p a) b

@@ -1,13 +1,13 @@
 -- The rows of the hardened graph as it is run: the source's own, node N, the catch, and the groups of extra nodes.
 -- Assumes nothing.
 use mathlib.Core.Path.{_≡_, _∙_}
-use mathlib.Core.Logic.{_⊎_, ⊎-elim}
+use mathlib.Core.Logic.{⊎-elim}
 use Prim.Native.Nat.{ℕ, zero, suc, _+_, _≤_, _<_}
 use native.Mathlib.Nat.{eq-or-lt-of-le, le-of-suc-le-suc, not-suc-le-zero}
 use native.Mathlib.Omega.{arith}
 use lib.ListN.{getD}
-use Rattle.graph.specs.Nodes.{Node, stop}
-use Rattle.harden.specs.Hardened.{Source, extra, crossing, extraBelow, groupAt, firstRow, rowAt, hardenedCount, hardenedTable}
+use Rattle.graph.specs.Nodes.{stop}
+use Rattle.harden.specs.Hardened.{Source, extra, crossing, extraBelow, groupAt, firstRow, rowAt, hardenedCount}
 use Rattle.harden.proofs.Rows.{own, group, row-own, row-first, row-catch, row-group, hardened-node}
 use Rattle.swift.specs.Demand.{Trial, hardenedGraph}
 

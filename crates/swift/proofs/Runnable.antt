@@ -1,7 +1,7 @@
 -- The hardened table of an accepted source is a runnable graph, whatever words stand behind it.
 -- Assumes nothing.
-use mathlib.Core.Path.{_≡_, refl, sym, ap, _∙_}
-use mathlib.Core.Bool.{Bool, true, false, cond}
+use mathlib.Core.Path.{_≡_, refl, ap, _∙_}
+use mathlib.Core.Bool.{Bool, true, false}
 use mathlib.Core.List.{List, [], _∷_, _++_}
 use Prim.Native.Nat.{ℕ, zero, suc, _+_, _*_, _/_, _%_, _≤_, _<_}
 use native.Mathlib.Nat.{le-of-suc-le-suc, not-suc-le-zero}
@@ -14,11 +14,11 @@ use Rattle.graph.specs.Kinds.{layouts, roleAt, fault}
 use Rattle.graph.specs.Nodes.{Node, go, branch, ret, stop, Action, const, op, input, output, Operand, register, constant, wordsOf}
 use Rattle.graph.specs.Accepted.{ActionIn, OperandIn, NodeIn, SourceGraph}
 use Rattle.graph.specs.Checks.{faultAt, runnableCheck}
-use Rattle.graph.proofs.Passed.{Passed, table-given}
-use Rattle.harden.specs.Hardened.{Source, extra, ownRow, groupOf, prepare, update, check, sign, crossing, extraBelow, groupAt, sourceRows, groupRows, firstRow, hardenedRows, hardenedCount, tableOf, hardenedTable}
+use Rattle.graph.proofs.Passed.{table-given}
+use Rattle.harden.specs.Hardened.{Source, extra, ownRow, groupOf, prepare, update, check, sign, crossing, groupAt, sourceRows, groupRows, firstRow, hardenedRows, hardenedCount, tableOf, hardenedTable}
 use Rattle.harden.proofs.Count.{count-bound, rows-length, hardened-length}
 use Rattle.harden.proofs.Rows.{own, group, word-at}
-use Rattle.swift.proofs.Rows.{extraOf, group-in, source-in}
+use Rattle.swift.proofs.Rows.{group-in, source-in}
 
 -- ---- words in order
 

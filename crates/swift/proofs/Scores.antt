@@ -1,23 +1,20 @@
 -- What demand 3 means for the score of a hardened graph whose undisturbed run returns with five steps to spare: each position is
 -- caught or harmless, and harmless just at a doubled test whose two targets are one node.
 -- Assumes nothing.
-use mathlib.Core.Path.{_≡_, refl, sym, ap, _∙_}
+use mathlib.Core.Path.{_≡_, refl, ap, _∙_}
 use mathlib.Core.Logic.{_⊎_, inl, inr}
-use mathlib.Core.Bool.{Bool, true, false, cond, _&&_}
+use mathlib.Core.Bool.{true}
 use mathlib.Core.List.{List, [], _∷_, _++_, append-nil}
 use Prim.Native.Nat.{ℕ, zero, suc, _+_, _-_, _≤_, _<_}
 use native.Mathlib.Omega.{arith}
 use lib.ListN.{length}
-use lib.Dec.{eqb}
 use borrow.Author.Tests.{eq-eqb}
-use Rattle.bench.specs.Steps.{Machine, Status, going, ended, Progress, at, start}
+use Rattle.bench.specs.Steps.{going, Progress, at, start}
 use Rattle.bench.specs.Runs.{settled, after, runOf}
-use Rattle.bench.specs.Campaigns.{prefixOf, same, Class, caught, late, harmless, changed, unended, classOf, tallied, noScore, classAt, scoreBelow}
+use Rattle.bench.specs.Campaigns.{prefixOf, same, Class, caught, harmless, classOf, tallied, classAt, scoreBelow}
 use Rattle.bench.specs.declared.Fault.the-variants.{Undisturbed, Inverted}
-use Rattle.bench.specs.declared.Outcome.{Outcome}
-use Rattle.bench.specs.declared.Outcome.the-variants.{Returned, Caught}
 use Rattle.bench.specs.declared.Score.{Score}
-use Rattle.swift.specs.Demand.{Trial, hardened, hardenedRun, Executes, soon, CaughtBy, Unchanged, OneTarget, Answered, Returns, TestAt, Covered}
+use Rattle.swift.specs.Demand.{Trial, hardened, hardenedRun, Executes, soon, CaughtBy, Unchanged, Answered, Returns, TestAt, Covered}
 use Rattle.swift.proofs.Rounds.{after-add, after-grown}
 use Rattle.swift.proofs.Roles.{Accepted}
 use Rattle.swift.proofs.Inverting.{answered}

@@ -3,7 +3,7 @@
 use mathlib.Core.Path.{_≡_, refl, sym, ap, _∙_, subst}
 use Prim.Native.Nat.{ℕ, zero, suc}
 use native.Mathlib.Omega.{arith}
-use Rattle.bench.specs.Steps.{Machine, Status, going, ended, Progress, at, start, counted}
+use Rattle.bench.specs.Steps.{Machine, going, ended, Progress, at, start, counted}
 use Rattle.bench.specs.Runs.{next, after, runOf}
 use Rattle.bench.specs.declared.Fault.the-variants.{Undisturbed}
 use Rattle.bench.specs.declared.Outcome.{Outcome}
@@ -11,7 +11,7 @@ use Rattle.bench.specs.declared.Outcome.the-variants.{Returned}
 use Rattle.swift.specs.Demand.{Trial, hardened, hardenedRun}
 use Rattle.swift.proofs.Rounds.{going-before}
 use Rattle.swift.proofs.Roles.{Accepted, AtSource, Checking, Updating, Preparing, Tested, Doubling, HardenedStep, Departs, walks, jumps, tests, ends, stops, Onward, check-step, update-step, prepare-step, tested-step, doubling-step, depart}
-use Rattle.swift.proofs.Following.{entered, first-step, first-source, hardened-next}
+use Rattle.swift.proofs.Following.{entered, first-step, first-source}
 
 pub data Standing (t : Trial) (m : Machine) : Type 0 where
   starting : m ≡ start (t .source .nodes) → Standing t m

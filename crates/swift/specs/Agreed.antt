@@ -3,7 +3,6 @@
 use Prim.Native.Nat.{ℕ}
 use mathlib.Core.Path.{_≡_, refl}
 use mathlib.Core.List.{List, [], _∷_, map}
-use lib.ListN.{length}
 use Rattle.words.specs.Answer.{Answer, given, refused, andThen}
 use Rattle.graph.specs.Kinds.{layouts, roleAt}
 use Rattle.graph.specs.Nodes.{nodeOf, nodeAt}
