@@ -20,7 +20,9 @@ use Rattle.bench.specs.declared.Outcome.the-variants.{Returned}
 use Rattle.swift.specs.Demand.{Trial, plain, hardened, sourceRun, hardenedRun, crossings, when, hardenedSteps, stopping, beside, Agree, Follows}
 use Rattle.swift.proofs.Rows.{first-row}
 use Rattle.swift.proofs.Rounds.{step-at, next-ended, steps-going}
-use Rattle.swift.proofs.Roles.{Accepted, signOf, AtSource, SourceStep, HardenedStep, Moved, Departs, walks, jumps, tests, ends, stops, check-step, update-step, prepare-step, tested-step, doubling-step, depart}
+use Rattle.swift.proofs.Roles.{Accepted, signOf, AtSource, SourceStep, HardenedStep, Moved, Departs, walks, jumps, tests, ends, stops}
+use Rattle.swift.proofs.Stepping.{check-step, update-step, prepare-step, tested-step, doubling-step}
+use Rattle.swift.proofs.Departing.{depart}
 
 -- ---- rounds of the two runs
 

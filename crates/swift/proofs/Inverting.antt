@@ -23,7 +23,8 @@ use Rattle.swift.specs.Demand.{Trial, hardened, hardenedGraph, hardenedR
 use Rattle.swift.proofs.Rows.{own-row, first-row, catch-row, extraOf, group-order, group-above}
 use Rattle.swift.proofs.Blocks.{sign-apart, targets-lead}
 use Rattle.swift.proofs.Rounds.{after-add, after-first, after-ended, step-at, before-place, past-place, inverted-step}
-use Rattle.swift.proofs.Roles.{Accepted, gsr, rts, signOf, checkFor, AtSource, Checking, Doubling, BranchAt, side, branch-in, branch-row, prepare-row, update-row, check-row, doubled-row, way-along, test-along, set-along, both-along, set-same, gsr-kept, fork, way-from, HardenedStep, check-goes, update-goes, prepare-goes, double-goes}
+use Rattle.swift.proofs.Roles.{Accepted, gsr, rts, signOf, checkFor, AtSource, Checking, Doubling, BranchAt, side, HardenedStep}
+use Rattle.swift.proofs.Stepping.{branch-in, branch-row, prepare-row, update-row, check-row, doubled-row, way-along, test-along, set-along, both-along, set-same, gsr-kept, fork, way-from, check-goes, update-goes, prepare-goes, double-goes}
 use Rattle.swift.proofs.Standing.{Standing, starting, at-source, tested, doubling, preparing, updating, checking, standing}
 
 module _ (t : Trial) (ok : Accepted (t .source)) where
@@ -134,7 +135,7 @@ module _ (t : Trial) (ok : Accepted (t .source)) where
       by (no d) (no d′) = (omega arith, omega arith)
 
   abbrev branch-of : {i : ℕ} (o : OneTarget s i) → BranchAt t (o .node)
-  branch-of o = record { here = o .inside; comparison = o .comparison; left = o .left; right = o .right; yea = o .yea; nay = o .nay; is-branch = o .is-branch }
+  branch-of o = record { here = o .inside; comparison = o .comparison; left = o .left; right = o .right; then = o .then; else = o .else; is-branch = o .is-branch }
 
   -- a node that makes a source branch's test compares a source register, and a check compares GSR
   no-test : (i n : ℕ) → hardenedGraph t i ≡ checkFor t n → OneTarget s i → ⊥
@@ -149,27 +150,27 @@ module _ (t : Trial) (ok : Accepted (t .source)) where
 
   module _ {n : ℕ} (b : BranchAt t n) where
     -- two targets have two signatures
-    apart : (w : Bool) → (b .yea ≡ b .nay → ⊥) → signOf t (side b (not w)) ≡ signOf t (side b w) → ⊥
+    apart : (w : Bool) → (b .then ≡ b .else → ⊥) → signOf t (side b (not w)) ≡ signOf t (side b w) → ⊥
     apart w other = by w
       where
-        same : signOf t (b .yea) ≡ signOf t (b .nay) → ⊥
+        same : signOf t (b .then) ≡ signOf t (b .else) → ⊥
         same e =
             let inside = branch-in t ok b in
-            let lead = targets-lead s n (b .comparison) (b .left) (b .yea) (b .nay) (b .right) (b .here) (b .is-branch) in
-            other (sign-apart s (ok .distinct) (ok .in-order .few-nodes) (b .yea) (b .nay) (inside .3) (inside .4) (lead .0) (lead .1) e)
+            let lead = targets-lead s n (b .comparison) (b .left) (b .then) (b .else) (b .right) (b .here) (b .is-branch) in
+            other (sign-apart s (ok .distinct) (ok .in-order .few-nodes) (b .then) (b .else) (inside .3) (inside .4) (lead .0) (lead .1) e)
 
         by : (w : Bool) → signOf t (side b (not w)) ≡ signOf t (side b w) → ⊥
         by true e = same (sym e)
         by false e = same e
 
     -- one target has one
-    together : b .yea ≡ b .nay → (u v : Bool) → side b u ≡ side b v
+    together : b .then ≡ b .else → (u v : Bool) → side b u ≡ side b v
     together e true true = refl
     together e true false = e
     together e false true = sym e
     together e false false = refl
 
-    one-target : b .yea ≡ b .nay → (i : ℕ) → TestOf s n i → OneTarget s i
+    one-target : b .then ≡ b .else → (i : ℕ) → TestOf s n i → OneTarget s i
     one-target e i test = record {
       node = n;
       inside = b .here;
@@ -177,33 +178,33 @@ module _ (t : Trial) (ok : Accepted (t .source)) where
       comparison = b .comparison;
       left = b .left;
       right = b .right;
-      yea = b .yea;
-      nay = b .nay;
+      then = b .then;
+      else = b .else;
       is-branch = b .is-branch;
       one-node = cc;
     }
 
     -- a test of the branch at n is one of no other branch
-    only : (i : ℕ) → TestOf s n i → OneTarget s i → b .yea ≡ b .nay
+    only : (i : ℕ) → TestOf s n i → OneTarget s i → b .then ≡ b .else
     only i test o = by (test-place test) (test-place (o .test))
       where
         k : ℕ
         k = o .node
 
-        same : n ≡ k → b .yea ≡ b .nay
+        same : n ≡ k → b .then ≡ b .else
         same e = cc (b .is-branch, ap (s .graph) e, o .is-branch, o .one-node)
 
-        by : (i ≡ n) ⊎ (i ≡ groupAt s n + 2) → (i ≡ k) ⊎ (i ≡ groupAt s k + 2) → b .yea ≡ b .nay
+        by : (i ≡ n) ⊎ (i ≡ groupAt s n + 2) → (i ≡ k) ⊎ (i ≡ groupAt s k + 2) → b .then ≡ b .else
         by (inl e) (inl f) = same (sym e ∙ f)
         by (inl e) (inr f) = absurd (omega (arith, b .here, group-above s k))
         by (inr e) (inl f) = absurd (omega (arith, o .inside, group-above s n))
         by (inr e) (inr f) = same (group-apart b (branch-of o) (omega arith))
 
   -- by whether the two targets are one
-  by-targets : {place rounds n : ℕ} (b : BranchAt t n) (i : ℕ) → TestOf s n i → (b .yea ≡ b .nay → Unchanged t place rounds) → ((b .yea ≡ b .nay → ⊥) → CaughtSoon t place rounds) → AnsweredAt i place rounds
-  by-targets {place} {rounds} b i test same other = by (ℕ-discrete (b .yea) (b .nay))
+  by-targets : {place rounds n : ℕ} (b : BranchAt t n) (i : ℕ) → TestOf s n i → (b .then ≡ b .else → Unchanged t place rounds) → ((b .then ≡ b .else → ⊥) → CaughtSoon t place rounds) → AnsweredAt i place rounds
+  by-targets {place} {rounds} b i test same other = by (ℕ-discrete (b .then) (b .else))
     where
-      by : Dec (b .yea ≡ b .nay) → AnsweredAt i place rounds
+      by : Dec (b .then ≡ b .else) → AnsweredAt i place rounds
       by (yes one) = inl (one-target b one i test, same one)
       by (no two) = inr ((λ o. two (only b i test o)), other two)
 
@@ -238,18 +239,18 @@ module _ (t : Trial) (ok : Accepted (t .source)) where
           (ap (hardenedGraph t) (d .place) ∙ doubled-row t ok bd) (way-along t ok (d .way) (d .along))
 
       -- with one target both sides come to it alike
-      doubled-joins : bd .yea ≡ bd .nay → (u : Bool) → from (doubled u) 2 ≡ at (branchTo (setting (doubled true) R (signOf t (σ .node)) 0) (σ .node)) going
+      doubled-joins : bd .then ≡ bd .else → (u : Bool) → from (doubled u) 2 ≡ at (branchTo (setting (doubled true) R (signOf t (σ .node)) 0) (σ .node)) going
       doubled-joins one u =
           let there : σ .node ≡ side bd u = d .way .target ∙ together bd one (d .w) u in
           passes (doubled u) (cond u (ed + 4) (ed + 6)) (σ .node) (signOf t (d .n)) (d .along .full) (update-row t ok bd u)
           (check-row t ok bd u ∙ ap (checkFor t) (sym there)) (d .signed) (d .prepared)
 
-      doubled-unchanged : bd .yea ≡ bd .nay → Unchanged t place rounds
+      doubled-unchanged : bd .then ≡ bd .else → Unchanged t place rounds
       doubled-unchanged one =
           unchanged place rounds m (doubled (not (d .w))) here refl doubled-wrong refl (doubled (d .w))
           (double-goes t ok (d .way) (d .along) (d .place)) (doubled-joins one (not (d .w)) ∙ sym (doubled-joins one (d .w)))
 
-      doubled-caught : (bd .yea ≡ bd .nay → ⊥) → CaughtSoon t place rounds
+      doubled-caught : (bd .then ≡ bd .else → ⊥) → CaughtSoon t place rounds
       doubled-caught two =
           let w = not (d .w) in
           let run = wrong-update (doubled w) (cond w (ed + 4) (ed + 6)) (side bd w) (signOf t (d .n)) (signOf t (σ .node)) (d .along .full)
@@ -293,7 +294,7 @@ module _ (t : Trial) (ok : Accepted (t .source)) where
       prepares u more = after-step (parted u) (prepared u) more (prepare-goes t ok (parted u) b u (fork e u))
 
       -- with one target the preparing nodes do the same
-      first-unchanged : b .yea ≡ b .nay → Unchanged t place rounds
+      first-unchanged : b .then ≡ b .else → Unchanged t place rounds
       first-unchanged one =
           let meet : from (parted (not w)) 2 ≡ from (parted w) 2 =
           prepares (not w) 1
@@ -301,7 +302,7 @@ module _ (t : Trial) (ok : Accepted (t .source)) where
           ∙ sym (prepares w 1) in
           unchanged place rounds m (parted (not w)) here refl first-wrong refl (parted w) first-right meet
 
-      first-caught : (b .yea ≡ b .nay → ⊥) → CaughtSoon t place rounds
+      first-caught : (b .then ≡ b .else → ⊥) → CaughtSoon t place rounds
       first-caught two =
           let u = not w in
           let along = both-along t ok (a .along) (side b w) (cond u e (e + 1)) in
@@ -330,7 +331,7 @@ module _ (t : Trial) (ok : Accepted (t .source)) where
           row = ap (hardenedGraph t) (a .node) ∙ own-row t (σ .node) (a .inside)
 
           by : (node : Node) → s .graph (σ .node) ≡ node → AnsweredAt (m .node) place rounds
-          by (branch c l r yea nay) is = at-first σ a (record { here = a .inside; comparison = c; left = l; right = r; yea = yea; nay = nay; is-branch = is })
+          by (branch c l r then else) is = at-first σ a (record { here = a .inside; comparison = c; left = l; right = r; then = then; else = else; is-branch = is })
           by (go action next) is = no-branch _ row (rw is)
           by (ret v) is = no-branch _ row (rw is)
           by stop is = no-branch _ row (rw is)

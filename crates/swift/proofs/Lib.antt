@@ -4,6 +4,8 @@ pub mod Rows
 pub mod Blocks
 pub mod Rounds
 pub mod Roles
+pub mod Stepping
+pub mod Departing
 pub mod Following
 pub mod Standing
 pub mod Inverting

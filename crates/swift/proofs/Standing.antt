@@ -10,7 +10,9 @@ use Rattle.bench.specs.declared.Outcome.{Outcome}
 use Rattle.bench.specs.declared.Outcome.the-variants.{Returned}
 use Rattle.swift.specs.Demand.{Trial, hardened, hardenedRun}
 use Rattle.swift.proofs.Rounds.{going-before}
-use Rattle.swift.proofs.Roles.{Accepted, AtSource, Checking, Updating, Preparing, Tested, Doubling, HardenedStep, Departs, walks, jumps, tests, ends, stops, Onward, check-step, update-step, prepare-step, tested-step, doubling-step, depart}
+use Rattle.swift.proofs.Roles.{Accepted, AtSource, Checking, Updating, Preparing, Tested, Doubling, HardenedStep, Departs, walks, jumps, tests, ends, stops, Onward}
+use Rattle.swift.proofs.Stepping.{check-step, update-step, prepare-step, tested-step, doubling-step}
+use Rattle.swift.proofs.Departing.{depart}
 use Rattle.swift.proofs.Following.{entered, first-step, first-source}
 
 pub data Standing (t : Trial) (m : Machine) : Type 0 where

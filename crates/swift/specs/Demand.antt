@@ -126,10 +126,10 @@ pub record OneTarget (s : Source) (i : ℕ) : Type 0 where
   pub comparison : ℕ
   pub left : ℕ
   pub right : Operand
-  pub yea : ℕ
-  pub nay : ℕ
-  pub is-branch : s .graph node ≡ branch comparison left right yea nay
-  pub one-node : yea ≡ nay
+  pub then : ℕ
+  pub else : ℕ
+  pub is-branch : s .graph node ≡ branch comparison left right then else
+  pub one-node : then ≡ else
 
 -- the second half of demand 3, for the branch that the undisturbed hardened run executes in the round after these
 abbrev pub Answered : Trial → ℕ → ℕ → Type 0
