@@ -72,7 +72,8 @@ module _ (graph : ℕ → Node) (nodes entry : ℕ) where
   head-leader zero n h = refl
   head-leader (suc f) n h = rw h
 
-  head-step : (f n : ℕ) → leader graph nodes entry n ≡ false → headIn graph nodes entry (suc f) n ≡ headIn graph nodes entry f (predecessor graph nodes n)
+  head-step : (f n : ℕ) → leader graph nodes entry n ≡ false
+      → headIn graph nodes entry (suc f) n ≡ headIn graph nodes entry f (predecessor graph nodes n)
   unfolding headIn
   head-step f n h = rw h
 
@@ -161,7 +162,8 @@ module _ (graph : ℕ → Node) (nodes entry : ℕ) where
       omega (arith, rank-up (suc a) b l)
 
   -- no two leaders have one rank
-  rank-apart : (a b : ℕ) → leader graph nodes entry a ≡ true → leader graph nodes entry b ≡ true → rank graph nodes entry a ≡ rank graph nodes entry b → a ≡ b
+  rank-apart : (a b : ℕ) → leader graph nodes entry a ≡ true → leader graph nodes entry b ≡ true
+      → rank graph nodes entry a ≡ rank graph nodes entry b → a ≡ b
   rank-apart a b p q e = omega (arith, by (decLt a b) (decLt b a))
     where
       by : Dec (a < b) → Dec (b < a) → (b ≤ a) × (a ≤ b)
@@ -187,7 +189,8 @@ module _ (graph : ℕ → Node) (nodes entry : ℕ) where
 
 module _ (s : Source) where
   -- a node that is no leader has the signature of the node before it
-  pub same-sign : SourceGraph (s .registers) (s .nodes) (s .entry) (s .graph) → (m n : ℕ) (action : Action) → s .graph m ≡ go action n → m < s .nodes → isLeader s n ≡ false
+  pub same-sign : SourceGraph (s .registers) (s .nodes) (s .entry) (s .graph) → (m n : ℕ) (action : Action) → s .graph m ≡ go action n → m < s .nodes
+      → isLeader s n ≡ false
       → (edges : ℕ) × (edges ≤ s .nodes) × PathIn (s .graph) (s .entry) edges n → sign s n ≡ sign s m
   unfolding isLeader sign signature
   same-sign ok m n action e l h path =
@@ -201,7 +204,8 @@ module _ (s : Source) where
   leader-sign n h = ap (λ b. s .plan (rank (s .graph) (s .nodes) (s .entry) b)) (head-leader (s .graph) (s .nodes) (s .entry) (s .nodes) n h)
 
   -- two leaders with one signature are one
-  pub sign-apart : Distinct (s .plan) → s .nodes ≤ 256 → (t f : ℕ) → t < s .nodes → f < s .nodes → isLeader s t ≡ true → isLeader s f ≡ true → sign s t ≡ sign s f → t ≡ f
+  pub sign-apart : Distinct (s .plan) → s .nodes ≤ 256 → (t f : ℕ) → t < s .nodes → f < s .nodes → isLeader s t ≡ true → isLeader s f ≡ true
+      → sign s t ≡ sign s f → t ≡ f
   unfolding isLeader
   sign-apart distinct few t f t< f< p q e =
       let rank′ = rank (s .graph) (s .nodes) (s .entry) in

@@ -2,6 +2,7 @@
 -- that it executes has a round; and with five steps left after that round the run with the branch inverted ends caught.
 -- Assumes nothing.
 use mathlib.Core.Path.{_≡_, refl, sym, ap, _∙_}
+use mathlib.Core.Logic.{inl, inr}
 use mathlib.Core.Bool.{Bool, true, false}
 use mathlib.Core.Option.{Option, none, some}
 use Prim.Native.Nat.{ℕ, zero, suc, _+_, _-_, _≤_, _<_}
@@ -16,18 +17,21 @@ use Rattle.bench.specs.declared.Fault.{Fault}
 use Rattle.bench.specs.declared.Fault.the-variants.{Undisturbed, Inverted}
 use Rattle.bench.specs.declared.Outcome.{Outcome}
 use Rattle.bench.specs.declared.Outcome.the-variants.{Returned, Caught, Spent, Full}
-use Rattle.swift.specs.Demand.{Trial, hardened, hardenedGraph, sourceRun, hardenedRun, hardenedSteps, stopping, beside, Executes, CaughtBy}
+use Rattle.swift.specs.Demand.{Trial, hardened, hardenedGraph, sourceRun, hardenedRun, hardenedSteps, stopping, beside, Executes, CaughtBy, Answered, AnsweredWithin}
 use Rattle.swift.proofs.Rounds.{after-add, after-ended, before-place, next-grown, after-grown, steps-going, branch-counted}
 use Rattle.swift.proofs.Roles.{Accepted}
 use Rattle.swift.proofs.Following.{follows}
+use Rattle.swift.proofs.Inverting.{answered}
 
 -- a place that is never reached changes nothing about a run
-pub never-reached : (s : Setting) (entry budget place : ℕ) → runOf s Undisturbed entry budget .machine .branches ≤ place → runOf s (Inverted place) entry budget ≡ runOf s Undisturbed entry budget
+pub never-reached : (s : Setting) (entry budget place : ℕ) → runOf s Undisturbed entry budget .machine .branches ≤ place
+    → runOf s (Inverted place) entry budget ≡ runOf s Undisturbed entry budget
 unfolding runOf
 never-reached s entry budget place h = before-place s place (at (start entry) going) budget h
 
 -- a run that has ended is the same with any larger budget
-pub stays : (s : Setting) (fault : Fault) (entry rounds budget : ℕ) (o : Outcome) → runOf s fault entry rounds .status ≡ ended o → rounds ≤ budget → runOf s fault entry budget ≡ runOf s fault entry rounds
+pub stays : (s : Setting) (fault : Fault) (entry rounds budget : ℕ) (o : Outcome) → runOf s fault entry rounds .status ≡ ended o → rounds ≤ budget
+    → runOf s fault entry budget ≡ runOf s fault entry rounds
 unfolding runOf
 stays s fault entry rounds budget o e h =
     let begin = at (start entry) going in
@@ -48,13 +52,15 @@ stopping-one (ended Spent) = omega arith
 stopping-one (ended Full) = omega arith
 
 module _ (t : Trial) where
-  pub hardened-stays : (fault : Fault) (rounds budget : ℕ) (o : Outcome) → hardenedRun t fault rounds .status ≡ ended o → rounds ≤ budget → hardenedRun t fault budget ≡ hardenedRun t fault rounds
+  pub hardened-stays : (fault : Fault) (rounds budget : ℕ) (o : Outcome) → hardenedRun t fault rounds .status ≡ ended o → rounds ≤ budget
+      → hardenedRun t fault budget ≡ hardenedRun t fault rounds
   unfolding hardenedRun
   hardened-stays fault rounds budget o e h = stays (hardened t) fault (t .source .nodes) rounds budget o e h
 
   -- ---- the round of a place
 
-  uncounted : (m : Machine) (node : Node) → isBranch node ≡ false → unless (stopped (t .room) node m) m (execute (t .inputs) Undisturbed node m) .machine .branches ≡ m .branches
+  uncounted : (m : Machine) (node : Node) → isBranch node ≡ false
+      → unless (stopped (t .room) node m) m (execute (t .inputs) Undisturbed node m) .machine .branches ≡ m .branches
   uncounted m (go action next) e = by (stopped (t .room) (go action next) m) action
     where
       by : (o : Option Outcome) (action : _) → unless o m (execute (t .inputs) Undisturbed (go action next) m) .machine .branches ≡ m .branches
@@ -73,7 +79,8 @@ module _ (t : Trial) where
   unfolding next step
   counts-branch p h = by (p .machine) (p .status) h
     where
-      by : (m : Machine) (status : Status) → m .branches < nextOf (hardened t) Undisturbed m status .machine .branches → (status ≡ going) × (isBranch (hardenedGraph t (m .node)) ≡ true)
+      by : (m : Machine) (status : Status) → m .branches < nextOf (hardened t) Undisturbed m status .machine .branches
+          → (status ≡ going) × (isBranch (hardenedGraph t (m .node)) ≡ true)
       by m (ended o) h = absurd (omega arith)
       by m going h = (refl, is (isBranch (hardenedGraph t (m .node))) refl)
         where
@@ -81,12 +88,14 @@ module _ (t : Trial) where
           is true e = refl
           is false e = absurd (omega (arith, uncounted m (hardenedGraph t (m .node)) e))
 
-  pub executes : (place budget : ℕ) → place < hardenedRun t Undisturbed budget .machine .branches → (rounds : ℕ) × (rounds < budget) × Executes t place rounds
+  pub executes : (place budget : ℕ) → place < hardenedRun t Undisturbed budget .machine .branches
+      → (rounds : ℕ) × (rounds < budget) × Executes t place rounds
   unfolding hardenedRun runOf after start
   executes place zero h = absurd (not-suc-le-zero h)
   executes place (suc budget) h = by (decLt place (hardenedRun t Undisturbed budget .machine .branches)) (executes place budget)
     where
-      by : Dec (place < hardenedRun t Undisturbed budget .machine .branches) → (place < hardenedRun t Undisturbed budget .machine .branches → (rounds : ℕ) × (rounds < budget) × Executes t place rounds)
+      by : Dec (place < hardenedRun t Undisturbed budget .machine .branches)
+          → (place < hardenedRun t Undisturbed budget .machine .branches → (rounds : ℕ) × (rounds < budget) × Executes t place rounds)
           → (rounds : ℕ) × (rounds < suc budget) × Executes t place rounds
       by (yes l) ih = let (rounds, r<, x) = ih l in (rounds, omega arith, x)
       by (no d) ih =
@@ -99,7 +108,8 @@ module _ (t : Trial) where
 
 module _ (t : Trial) (ok : Accepted (t .source)) where
   -- where the source has ended, the hardened run with a budget above the steps named has ended beside it
-  pub ends-beside : (rounds budget : ℕ) (o : Outcome) → sourceRun t rounds .status ≡ ended o → hardenedSteps t rounds < budget → hardenedRun t Undisturbed budget ≡ beside t rounds
+  pub ends-beside : (rounds budget : ℕ) (o : Outcome) → sourceRun t rounds .status ≡ ended o → hardenedSteps t rounds < budget
+      → hardenedRun t Undisturbed budget ≡ beside t rounds
   unfolding beside
   ends-beside rounds budget o e h =
       let alike : beside t rounds .status ≡ ended o = follows t ok rounds .alike ∙ e in
@@ -112,8 +122,20 @@ module _ (t : Trial) (ok : Accepted (t .source)) where
       let same : hardenedRun t (Inverted place) budget ≡ hardenedRun t (Inverted place) later = hardened-stays t (Inverted place) later budget Caught (c .is-caught) h in
       record { is-caught = rw same (c .is-caught); no-read = rw same (c .no-read); no-event = rw same (c .no-event) }
 
+  -- each branch that a run with a budget executes has its round, and is answered from there
+  pub answered-within : (place budget : ℕ) → place < hardenedRun t Undisturbed budget .machine .branches
+      → (rounds : ℕ) × (rounds < budget) × Executes t place rounds × AnsweredWithin t place rounds budget
+  answered-within place budget h =
+      let (rounds, within, x) = executes t place budget h in
+      (rounds, within, x, by rounds (answered t ok place rounds x))
+    where
+      by : (rounds : ℕ) → Answered t place rounds → AnsweredWithin t place rounds budget
+      by rounds (inl (one, unchanged)) = inl (one, λ left. unchanged budget left)
+      by rounds (inr (two, caught)) = inr (two, λ left. caught-stays caught budget left)
+
   -- a branch executed by a run that has ended lies before its last step
-  pub executed-before : (place rounds budget : ℕ) → Executes t place rounds → rounds < budget → rounds + 1 ≤ hardenedRun t Undisturbed budget .machine .steps
+  pub executed-before : (place rounds budget : ℕ) → Executes t place rounds → rounds < budget
+      → rounds + 1 ≤ hardenedRun t Undisturbed budget .machine .steps
   unfolding hardenedRun runOf after start
   executed-before place rounds budget x h =
       let begin = at (start (t .source .nodes)) going in

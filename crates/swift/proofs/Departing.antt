@@ -69,7 +69,8 @@ module _ (t : Trial) (ok : Accepted (t .source)) where
   act-gsr m (output port a) next h = refl
 
   -- what stops the one stops the other, and is seen one round later
-  stopped-alike : {σ m : Machine} → Along t σ m → (action : Action) (next next′ : ℕ) → stopped (t .room) (go action next′) m ≡ stopped (t .room) (go action next) σ
+  stopped-alike : {σ m : Machine} → Along t σ m → (action : Action) (next next′ : ℕ)
+      → stopped (t .room) (go action next′) m ≡ stopped (t .room) (go action next) σ
   stopped-alike along (const d k) next next′ = refl
   stopped-alike along (op o d a b) next next′ = refl
   stopped-alike along (input d) next next′ = refl
@@ -164,7 +165,8 @@ module _ (t : Trial) (ok : Accepted (t .source)) where
             arrive action l is (inside .1) b c σ′ m′ (source none e) (hard none e) moved
             (act-along along action l l′ (inside .0)) (acted σ action l .0) (acted m action l′ .0) (act-gsr m action l′ (inside .0) ∙ here .signed)
 
-    part : (c a then else : ℕ) (b : Operand) → s .graph n ≡ branch c a b then else → (w : Bool) → compare c (get σ a) (operandOf σ b) ≡ w → Departs t σ m
+    part : (c a then else : ℕ) (b : Operand) → s .graph n ≡ branch c a b then else → (w : Bool) → compare c (get σ a) (operandOf σ b) ≡ w
+        → Departs t σ m
     unfolding crossing
     part c a then else b is w h =
         let inside : NodeIn R (s .nodes) (branch c a b then else) = rw is at (ok .in-order .node-in n (here .inside)) in

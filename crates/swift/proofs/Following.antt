@@ -1,5 +1,5 @@
 -- The first half of demand 3: the undisturbed hardened run stands after 1 + s + 4b + 3x steps as the source after s, and has
--- ended alike if the source has, else not at all. Beside it: the role of the hardened machine in every round that it is going.
+-- ended alike if the source has, else not at all.
 -- Assumes nothing.
 use mathlib.Core.Path.{_≡_, refl, sym, ap, ap₂, _∙_}
 use mathlib.Core.Bool.{Bool, true, false, cond, _&&_, and-true, and-false}
@@ -20,7 +20,7 @@ use Rattle.bench.specs.declared.Outcome.the-variants.{Returned}
 use Rattle.swift.specs.Demand.{Trial, plain, hardened, sourceRun, hardenedRun, crossings, when, hardenedSteps, stopping, beside, Agree, Follows}
 use Rattle.swift.proofs.Rows.{first-row}
 use Rattle.swift.proofs.Rounds.{step-at, next-ended, steps-going}
-use Rattle.swift.proofs.Roles.{Accepted, signOf, AtSource, SourceStep, HardenedStep, Moved, Departs, walks, jumps, tests, ends, stops}
+use Rattle.swift.proofs.Roles.{Accepted, signOf, AtSource, Updating, SourceStep, HardenedStep, Moved, Departs, walks, jumps, tests, ends, stops}
 use Rattle.swift.proofs.Stepping.{check-step, update-step, prepare-step, tested-step, doubling-step}
 use Rattle.swift.proofs.Departing.{depart}
 
@@ -31,12 +31,14 @@ module _ (t : Trial) where
   unfolding sourceRun runOf after
   source-next rounds p e = ap (next (plain t) Undisturbed) e
 
-  pub hardened-next : (fault : Fault) (rounds : ℕ) (p : Progress) → hardenedRun t fault rounds ≡ p → hardenedRun t fault (suc rounds) ≡ next (hardened t) fault p
+  pub hardened-next : (fault : Fault) (rounds : ℕ) (p : Progress) → hardenedRun t fault rounds ≡ p
+      → hardenedRun t fault (suc rounds) ≡ next (hardened t) fault p
   unfolding hardenedRun runOf after
   hardened-next fault rounds p e = ap (next (hardened t) fault) e
 
   -- the hardened run with its next step
-  onward : {m : Machine} (rounds : ℕ) (p : Progress) → hardenedRun t Undisturbed rounds ≡ at m going → HardenedStep t m p → hardenedRun t Undisturbed (suc rounds) ≡ p
+  onward : {m : Machine} (rounds : ℕ) (p : Progress) → hardenedRun t Undisturbed rounds ≡ at m going → HardenedStep t m p
+      → hardenedRun t Undisturbed (suc rounds) ≡ p
   onward rounds p e h = hardened-next Undisturbed rounds (at _ going) e ∙ h
 
   -- ---- counts
@@ -47,12 +49,14 @@ module _ (t : Trial) where
   crossings-step rounds p q e f =
       ap₂ (λ a b. crossings t rounds + cond (crossing (t .source) (a .machine .node) && ltb (a .machine .steps) (b .machine .steps)) 1 0) e f
 
-  steps-are : (rounds : ℕ) (p : Progress) → sourceRun t rounds ≡ p → hardenedSteps t rounds ≡ when (p .machine .steps) (p .machine .branches) (crossings t rounds)
+  steps-are : (rounds : ℕ) (p : Progress) → sourceRun t rounds ≡ p
+      → hardenedSteps t rounds ≡ when (p .machine .steps) (p .machine .branches) (crossings t rounds)
   unfolding hardenedSteps
   steps-are rounds p e = ap (λ a. when (a .machine .steps) (a .machine .branches) (crossings t rounds)) e
 
   -- a source step is answered by 1 + 4 + 3 hardened steps, the 4 for a branch and the 3 for a crossing jump
-  steps-more : (rounds : ℕ) (σ σ′ : Machine) (status : Status) (branches : ℕ) (crosses : Bool) → sourceRun t rounds ≡ at σ going → sourceRun t (suc rounds) ≡ at σ′ status
+  steps-more : (rounds : ℕ) (σ σ′ : Machine) (status : Status) (branches : ℕ) (crosses : Bool) → sourceRun t rounds ≡ at σ going
+      → sourceRun t (suc rounds) ≡ at σ′ status
       → Moved t σ σ′ branches crosses → hardenedSteps t (suc rounds) ≡ hardenedSteps t rounds + 1 + 4 * branches + 3 * cond crosses 1 0
   steps-more rounds σ σ′ status branches crosses e f moved =
       let up : ltb (σ .steps) (σ′ .steps) ≡ true = lt-ltb (σ .steps) (σ′ .steps) (omega arith) in
@@ -78,8 +82,10 @@ module _ (t : Trial) where
 
 -- both runs going, at one source node; or both ended alike
 data Beside (t : Trial) (rounds : ℕ) : Type 0 where
-  both-going : (σ m : Machine) → sourceRun t rounds ≡ at σ going → hardenedRun t Undisturbed (hardenedSteps t rounds) ≡ at m going → AtSource t σ m → Beside t rounds
-  both-ended : (σ m : Machine) (o : Outcome) → sourceRun t rounds ≡ at σ (ended o) → hardenedRun t Undisturbed (hardenedSteps t rounds + stopping (ended o)) ≡ at m (ended o)
+  both-going : (σ m : Machine) → sourceRun t rounds ≡ at σ going → hardenedRun t Undisturbed (hardenedSteps t rounds) ≡ at m going → AtSource t σ m
+      → Beside t rounds
+  both-ended : (σ m : Machine) (o : Outcome) → sourceRun t rounds ≡ at σ (ended o)
+      → hardenedRun t Undisturbed (hardenedSteps t rounds + stopping (ended o)) ≡ at m (ended o)
       → Agree (t .source .registers) m σ → m .steps ≡ hardenedSteps t rounds → Beside t rounds
 
 module _ (t : Trial) (ok : Accepted (t .source)) where
@@ -132,33 +138,34 @@ module _ (t : Trial) (ok : Accepted (t .source)) where
     source-to : (p : Progress) → SourceStep t σ p → sourceRun t (suc rounds) ≡ p
     source-to p e = source-next t rounds (at σ going) se ∙ e
 
-    arrived : (σ′ m′ : Machine) (k : ℕ) → SourceStep t σ (at σ′ going) → hardenedSteps t (suc rounds) ≡ k → hardenedRun t Undisturbed k ≡ at m′ going → AtSource t σ′ m′ → Beside t (suc rounds)
-    arrived σ′ m′ k s e h there = both-going σ′ m′ (source-to (at σ′ going) s) (ap (hardenedRun t Undisturbed) e ∙ h) there
+    -- the source is a step further, and so is the hardened run after k rounds in all
+    arrived : (σ′ : Machine) (branches : ℕ) (crosses : Bool) (k : ℕ) → SourceStep t σ (at σ′ going) → Moved t σ σ′ branches crosses
+        → k ≡ r + 1 + 4 * branches + 3 * cond crosses 1 0
+        → (m′ : Machine) × (hardenedRun t Undisturbed k ≡ at m′ going) × AtSource t σ′ m′ → Beside t (suc rounds)
+    arrived σ′ branches crosses k s moved e (m′, h, there) =
+        let sn : sourceRun t (suc rounds) ≡ at σ′ going = source-to (at σ′ going) s in
+        both-going σ′ m′ sn (ap (hardenedRun t Undisturbed) (steps-more t rounds σ σ′ going branches crosses se sn moved ∙ sym e) ∙ h) there
+
+    -- the update and the check
+    last-two : (σ′ n : Machine) (k : ℕ) → hardenedRun t Undisturbed k ≡ at n going → Updating t σ′ n
+        → (m′ : Machine) × (hardenedRun t Undisturbed (suc (suc k)) ≡ at m′ going) × AtSource t σ′ m′
+    last-two σ′ n k h u =
+        let (n₁, s₁, c) = update-step t ok u in
+        let (n₂, s₂, there) = check-step t ok c in
+        (n₂, onward t (suc k) (at n₂ going) (onward t k (at n₁ going) h s₁) s₂, there)
 
     on : Departs t σ m → Beside t (suc rounds)
-    on (walks σ′ m′ s h moved there) =
-        let e : hardenedSteps t (suc rounds) ≡ suc r = steps-more t rounds σ σ′ going 0 false se (source-to (at σ′ going) s) moved ∙ omega arith in
-        arrived σ′ m′ (suc r) s e (onward t r (at m′ going) he h) there
+    on (walks σ′ m₁ s h moved there) = arrived σ′ 0 false (suc r) s moved (omega arith) (m₁, onward t r (at m₁ going) he h, there)
     on (jumps σ′ m₁ s h moved p) =
-        let e : hardenedSteps t (suc rounds) ≡ suc (suc (suc (suc r))) = steps-more t rounds σ σ′ going 0 true se (source-to (at σ′ going) s) moved ∙ omega arith in
-        let h₁ = onward t r (at m₁ going) he h in
         let (m₂, s₂, u) = prepare-step t ok p in
-        let h₂ = onward t (suc r) (at m₂ going) h₁ s₂ in
-        let (m₃, s₃, c) = update-step t ok u in
-        let h₃ = onward t (suc (suc r)) (at m₃ going) h₂ s₃ in
-        let (m₄, s₄, a) = check-step t ok c in
-        arrived σ′ m₄ (suc (suc (suc (suc r)))) s e (onward t (suc (suc (suc r))) (at m₄ going) h₃ s₄) a
+        let h₂ = onward t (suc r) (at m₂ going) (onward t r (at m₁ going) he h) s₂ in
+        arrived σ′ 0 true (suc (suc (suc (suc r)))) s moved (omega arith) (last-two σ′ m₂ (suc (suc r)) h₂ u)
     on (tests σ′ m₁ s h moved q) =
-        let e : hardenedSteps t (suc rounds) ≡ suc (suc (suc (suc (suc r)))) = steps-more t rounds σ σ′ going 1 false se (source-to (at σ′ going) s) moved ∙ omega arith in
-        let h₁ = onward t r (at m₁ going) he h in
         let (m₂, s₂, d) = tested-step t ok q in
-        let h₂ = onward t (suc r) (at m₂ going) h₁ s₂ in
         let (m₃, s₃, u) = doubling-step t ok d in
+        let h₂ = onward t (suc r) (at m₂ going) (onward t r (at m₁ going) he h) s₂ in
         let h₃ = onward t (suc (suc r)) (at m₃ going) h₂ s₃ in
-        let (m₄, s₄, c) = update-step t ok u in
-        let h₄ = onward t (suc (suc (suc r))) (at m₄ going) h₃ s₄ in
-        let (m₅, s₅, a) = check-step t ok c in
-        arrived σ′ m₅ (suc (suc (suc (suc (suc r))))) s e (onward t (suc (suc (suc (suc r)))) (at m₅ going) h₄ s₅) a
+        arrived σ′ 1 false (suc (suc (suc (suc (suc r))))) s moved (omega arith) (last-two σ′ m₃ (suc (suc (suc r))) h₃ u)
     on (ends value s h uncrossed) =
         let o = Returned value in
         let moved : Moved t σ (counted σ) 0 false = record { one-step = refl; some-branches = sym (add-zero (σ .branches)); crossed = uncrossed } in
@@ -188,10 +195,13 @@ module _ (t : Trial) (ok : Accepted (t .source)) where
   unfolding beside
   follows rounds = by (follow rounds)
     where
+      at-end : (p : Progress) → sourceRun t rounds ≡ p → beside t rounds ≡ hardenedRun t Undisturbed (hardenedSteps t rounds + stopping (p .status))
+      at-end p e = ap (λ q. hardenedRun t Undisturbed (hardenedSteps t rounds + stopping (q .status))) e
+
       by : Beside t rounds → Follows t rounds
       by (both-going σ m se he here) =
-          let b : beside t rounds ≡ at m going = ap (λ p. hardenedRun t Undisturbed (hardenedSteps t rounds + stopping (p .status))) se ∙ ap (hardenedRun t Undisturbed) (add-zero (hardenedSteps t rounds)) ∙ he in
+          let b : beside t rounds ≡ at m going = at-end (at σ going) se ∙ ap (hardenedRun t Undisturbed) (add-zero (hardenedSteps t rounds)) ∙ he in
           record { steps = rw b (hardened-steps (hardenedSteps t rounds) m he); agree = rw (b, se) (agreed here); alike = rw (b, se) }
       by (both-ended σ m o se he agree counts) =
-          let b : beside t rounds ≡ at m (ended o) = ap (λ p. hardenedRun t Undisturbed (hardenedSteps t rounds + stopping (p .status))) se ∙ he in
+          let b : beside t rounds ≡ at m (ended o) = at-end (at σ (ended o)) se ∙ he in
           record { steps = rw b counts; agree = rw (b, se) agree; alike = rw (b, se) }

@@ -48,7 +48,8 @@ module _ (t : Trial) (ok : Accepted (t .source)) where
   catches m e = step-at (hardened t) Undisturbed m stop (ap (hardenedGraph t) e ∙ catch-row t)
 
   -- an update prepared for another signature than the check's
-  wrong-update : (m : Machine) (then n g v : ℕ) → length (m .registers) ≡ 64 → hardenedGraph t (m .node) ≡ update R then → hardenedGraph t then ≡ checkFor t n
+  wrong-update : (m : Machine) (then n g v : ℕ) → length (m .registers) ≡ 64 → hardenedGraph t (m .node) ≡ update R then
+      → hardenedGraph t then ≡ checkFor t n
       → gsr t m ≡ g → rts t m ≡ bitXor g v → (v ≡ signOf t n → ⊥)
       → from m 3 ≡ at (counted (branchTo (setting m R v then) (s .nodes + 1))) (ended Caught)
   unfolding compare
@@ -85,7 +86,8 @@ module _ (t : Trial) (ok : Accepted (t .source)) where
         ∙ past-place (hardened t) place (at m′ going) more (omega arith)
 
     -- what is caught in few enough rounds is caught soon
-    caught-soon : (few : ℕ) (m″ : Machine) → few ≤ soon → from m′ few ≡ at m″ (ended Caught) → m″ .reads ≡ m .reads → m″ .events ≡ m .events → CaughtSoon t place rounds
+    caught-soon : (few : ℕ) (m″ : Machine) → few ≤ soon → from m′ few ≡ at m″ (ended Caught) → m″ .reads ≡ m .reads → m″ .events ≡ m .events
+        → CaughtSoon t place rounds
     caught-soon few m″ h e reads events =
         let split : soon ≡ few + (soon - few) = omega arith in
         let run : hardenedRun t (Inverted place) (rounds + 1 + soon) ≡ at m″ (ended Caught) =
@@ -201,7 +203,8 @@ module _ (t : Trial) (ok : Accepted (t .source)) where
         by (inr e) (inr f) = same (group-apart b (branch-of o) (omega arith))
 
   -- by whether the two targets are one
-  by-targets : {place rounds n : ℕ} (b : BranchAt t n) (i : ℕ) → TestOf s n i → (b .then ≡ b .else → Unchanged t place rounds) → ((b .then ≡ b .else → ⊥) → CaughtSoon t place rounds) → AnsweredAt i place rounds
+  by-targets : {place rounds n : ℕ} (b : BranchAt t n) (i : ℕ) → TestOf s n i → (b .then ≡ b .else → Unchanged t place rounds)
+      → ((b .then ≡ b .else → ⊥) → CaughtSoon t place rounds) → AnsweredAt i place rounds
   by-targets {place} {rounds} b i test same other = by (ℕ-discrete (b .then) (b .else))
     where
       by : Dec (b .then ≡ b .else) → AnsweredAt i place rounds
@@ -239,7 +242,8 @@ module _ (t : Trial) (ok : Accepted (t .source)) where
           (ap (hardenedGraph t) (d .place) ∙ doubled-row t ok bd) (way-along t ok (d .way) (d .along))
 
       -- with one target both sides come to it alike
-      doubled-joins : bd .then ≡ bd .else → (u : Bool) → from (doubled u) 2 ≡ at (branchTo (setting (doubled true) R (signOf t (σ .node)) 0) (σ .node)) going
+      doubled-joins : bd .then ≡ bd .else → (u : Bool)
+          → from (doubled u) 2 ≡ at (branchTo (setting (doubled true) R (signOf t (σ .node)) 0) (σ .node)) going
       doubled-joins one u =
           let there : σ .node ≡ side bd u = d .way .target ∙ together bd one (d .w) u in
           passes (doubled u) (cond u (ed + 4) (ed + 6)) (σ .node) (signOf t (d .n)) (d .along .full) (update-row t ok bd u)

@@ -105,7 +105,8 @@ module _ (s : Setting) (fault : Fault) where
       by m (ended o) = still m
 
   -- later rounds have no fewer steps, and their events go on from the earlier ones
-  pub after-grown : (p : Progress) (rounds : ℕ) → (p .machine .steps ≤ after s fault p rounds .machine .steps) × (more : List ℕ) × (after s fault p rounds .machine .events ≡ p .machine .events ++ more)
+  pub after-grown : (p : Progress) (rounds : ℕ)
+      → (p .machine .steps ≤ after s fault p rounds .machine .steps) × (more : List ℕ) × (after s fault p rounds .machine .events ≡ p .machine .events ++ more)
   unfolding after
   after-grown p zero = let g = still (p .machine) in (g .steps-more, g .events-more .0, g .events-more .1)
   after-grown p (suc rounds) = by (after s fault p rounds) (after-grown p rounds)
@@ -127,12 +128,14 @@ module _ (s : Setting) (fault : Fault) where
       by m (ended o) e = e
 
   -- while a run is going each round is a step
-  pub steps-going : (m : Machine) (rounds : ℕ) → after s fault (at m going) rounds .status ≡ going → after s fault (at m going) rounds .machine .steps ≡ m .steps + rounds
+  pub steps-going : (m : Machine) (rounds : ℕ) → after s fault (at m going) rounds .status ≡ going
+      → after s fault (at m going) rounds .machine .steps ≡ m .steps + rounds
   unfolding after
   steps-going m zero e = sym (add-zero (m .steps))
   steps-going m (suc rounds) e = by (after s fault (at m going) rounds) e (steps-going m rounds)
     where
-      by : (p : Progress) → next s fault p .status ≡ going → (p .status ≡ going → p .machine .steps ≡ m .steps + rounds) → next s fault p .machine .steps ≡ m .steps + suc rounds
+      by : (p : Progress) → next s fault p .status ≡ going → (p .status ≡ going → p .machine .steps ≡ m .steps + rounds)
+          → next s fault p .machine .steps ≡ m .steps + suc rounds
       by p e ih =
           let on : p .status ≡ going = going-before p e in
           let same : p ≡ at (p .machine) going = ap (at (p .machine)) on in
@@ -174,7 +177,8 @@ module _ (s : Setting) (place : ℕ) where
       by stop h = (cc, cc)
 
   -- a fault changes nothing before its place ..
-  pub before-place : (p : Progress) (rounds : ℕ) → after s Undisturbed p rounds .machine .branches ≤ place → after s (Inverted place) p rounds ≡ after s Undisturbed p rounds
+  pub before-place : (p : Progress) (rounds : ℕ) → after s Undisturbed p rounds .machine .branches ≤ place
+      → after s (Inverted place) p rounds ≡ after s Undisturbed p rounds
   unfolding after
   before-place p zero h = refl
   before-place p (suc rounds) h = by (after s Undisturbed p rounds) h (before-place p rounds)

@@ -63,14 +63,15 @@ module _ (registers nodes : ℕ) where
   all-at (row ∷ rows) zero a h = a .0
   all-at (row ∷ rows) (suc i) a h = all-at rows i (a .1) (le-of-suc-le-suc h)
 
-  table-order : (rows : List Node) (behind : List ℕ) → AllIn rows → (i : ℕ) → i < 6 * length rows → faultAt 8 registers nodes (tableOf rows ++ behind) i ≡ 0
+  table-order : (rows : List Node) (behind : List ℕ) → AllIn rows → (i : ℕ) → i < 6 * length rows
+      → faultAt 8 registers nodes (tableOf rows ++ behind) i ≡ 0
   unfolding faultAt
   table-order rows behind a i h =
       let n = i / 6 in
-      let j = i % 6 in
-      let first : getD (tableOf rows ++ behind) (i / 6 * 6) 0 ≡ getD (wordsOf (getD rows n stop)) 0 0 = ap (λ k. getD (tableOf rows ++ behind) k 0) (omega arith) ∙ word-at rows behind n 0 (omega arith) (omega arith) in
-      let this : getD (tableOf rows ++ behind) i 0 ≡ getD (wordsOf (getD rows n stop)) j 0 = ap (λ k. getD (tableOf rows ++ behind) k 0) (omega arith) ∙ word-at rows behind n j (omega arith) (omega arith) in
-      rw (first, this) (row-order (getD rows n stop) (all-at rows n a (omega arith)) j (omega arith))
+      let word : (j k : ℕ) → k ≡ 6 * n + j → j < 6 → getD (tableOf rows ++ behind) k 0 ≡ getD (wordsOf (getD rows n stop)) j 0 =
+      λ j k e j<. ap (λ k. getD (tableOf rows ++ behind) k 0) e ∙ word-at rows behind n j (omega arith) j< in
+      rw (word 0 (i / 6 * 6) (omega arith) (omega arith), word (i % 6) i (omega arith) (omega arith))
+      (row-order (getD rows n stop) (all-at rows n a (omega arith)) (i % 6) (omega arith))
 
 -- ---- the rows of a hardened graph
 
@@ -104,7 +105,8 @@ module _ (s : Source) (ok : SourceGraph (s .registers) (s .nodes) (s .entry) (s 
   check-in : (target : ℕ) → target < s .nodes → RowIn (check R 0 (s .nodes + 1) target)
   check-in target h = (omega arith, omega arith, tt, omega (arith, source-in s), omega (arith, source-in s))
 
-  own-in : (n : ℕ) (node : Node) (crosses : Bool) → NodeIn R (s .nodes) node → groupAt s n + extra crosses node ≤ H → RowIn (ownRow (groupAt s n) crosses node)
+  own-in : (n : ℕ) (node : Node) (crosses : Bool) → NodeIn R (s .nodes) node → groupAt s n + extra crosses node ≤ H
+      → RowIn (ownRow (groupAt s n) crosses node)
   own-in n (go action next) true (a, next<) fits = (action-in action a, omega arith)
   own-in n (go action next) false (a, next<) fits = (action-in action a, omega (arith, source-in s))
   own-in n (branch c a b t f) crosses (c<, a<, b<, t<, f<) fits = (c<, omega arith, operand-in b b<, omega arith, omega arith)

@@ -32,7 +32,8 @@ same-self events =
     rw (whole, eq-eqb (length events) (length events) refl)
 
 -- the events of a round are a prefix of those of a later one
-earlier-events : (t : Trial) (rounds budget : ℕ) → rounds ≤ budget → prefixOf (hardenedRun t Undisturbed rounds .machine .events) (hardenedRun t Undisturbed budget .machine .events) ≡ true
+earlier-events : (t : Trial) (rounds budget : ℕ) → rounds ≤ budget
+    → prefixOf (hardenedRun t Undisturbed rounds .machine .events) (hardenedRun t Undisturbed budget .machine .events) ≡ true
 unfolding hardenedRun runOf
 earlier-events t rounds budget h =
     let begin = at (start (t .source .nodes)) going in
@@ -52,7 +53,8 @@ module _ (t : Trial) (ok : Accepted (t .source)) (budget value : ℕ) (returns :
   abbrev class : ℕ → Class
   class place = classAt (hardened t) (t .source .nodes) budget value reference place
 
-  class-of : (place : ℕ) (p : Progress) → hardenedRun t (Inverted place) budget ≡ p → class place ≡ classOf value reference (settled (p .status)) (p .machine .events)
+  class-of : (place : ℕ) (p : Progress) → hardenedRun t (Inverted place) budget ≡ p
+      → class place ≡ classOf value reference (settled (p .status)) (p .machine .events)
   unfolding classAt hardenedRun
   class-of place p e = ap (λ q. classOf value reference (settled (q .status)) (q .machine .events)) e
 
@@ -92,7 +94,8 @@ module _ (t : Trial) (ok : Accepted (t .source)) (budget value : ℕ) (returns :
 
   -- ---- counts
 
-  covered-below : (k : ℕ) → k ≤ hardenedRun t Undisturbed budget .machine .branches → Covered k (scoreBelow (hardened t) (t .source .nodes) budget value reference k)
+  covered-below : (k : ℕ) → k ≤ hardenedRun t Undisturbed budget .machine .branches
+      → Covered k (scoreBelow (hardened t) (t .source .nodes) budget value reference k)
   unfolding scoreBelow
   covered-below zero h = record { all-tried = refl; caught-or-harmless = refl; none-late = refl; none-changed = refl; none-unended = refl }
   covered-below (suc k) h = by (class k) (scoreBelow (hardened t) (t .source .nodes) budget value reference k) (which (classes k h)) (covered-below k (omega arith))
@@ -102,8 +105,8 @@ module _ (t : Trial) (ok : Accepted (t .source)) (budget value : ℕ) (returns :
       which (inr (e, x)) = inr e
 
       by : (c : Class) (score : Score) → (c ≡ harmless) ⊎ (c ≡ caught) → Covered k score → Covered (suc k) (tallied c score)
-      by c score (inl e) f = rw e (record { all-tried = omega (arith, f .all-tried); caught-or-harmless = omega (arith, f .caught-or-harmless); none-late = f .none-late; none-changed = f .none-changed; none-unended = f .none-unended })
-      by c score (inr e) f = rw e (record { all-tried = omega (arith, f .all-tried); caught-or-harmless = omega (arith, f .caught-or-harmless); none-late = f .none-late; none-changed = f .none-changed; none-unended = f .none-unended })
+      by c score (inl e) f = rw e (omega arith)
+      by c score (inr e) f = rw e (omega arith)
 
   -- no late, no changed, no unended: the caught and the harmless are all
   pub covered : let branches = hardenedRun t Undisturbed budget .machine .branches in Covered branches (scoreBelow (hardened t) (t .source .nodes) budget value reference branches)

@@ -79,7 +79,8 @@ module _ (t : Trial) (ok : Accepted (t .source)) where
   -- ---- one step from each role
 
   -- a check of the signature that is in GSR goes on
-  pub check-goes : (m : Machine) (n : ℕ) → hardenedGraph t (m .node) ≡ checkFor t n → gsr t m ≡ signOf t n → HardenedStep t m (at (branchTo m n) going)
+  pub check-goes : (m : Machine) (n : ℕ) → hardenedGraph t (m .node) ≡ checkFor t n → gsr t m ≡ signOf t n
+      → HardenedStep t m (at (branchTo m n) going)
   unfolding compare
   check-goes m n row signed =
       step-at (hardened t) Undisturbed m (checkFor t n) row ∙ rw (eq-eqb (gsr t m) (signOf t n) signed)
@@ -92,7 +93,8 @@ module _ (t : Trial) (ok : Accepted (t .source)) where
   )
 
   -- an update puts the signature into GSR that RTS was prepared for
-  pub update-goes : (m : Machine) (check-at g v : ℕ) → length (m .registers) ≡ 64 → hardenedGraph t (m .node) ≡ update R check-at → gsr t m ≡ g → rts t m ≡ bitXor g v
+  pub update-goes : (m : Machine) (check-at g v : ℕ) → length (m .registers) ≡ 64 → hardenedGraph t (m .node) ≡ update R check-at → gsr t m ≡ g
+      → rts t m ≡ bitXor g v
       → HardenedStep t m (at (setting m R v check-at) going) × (gsr t (setting m R v check-at) ≡ v)
   unfolding operate
   update-goes m check-at g v full row signed prepared =
@@ -140,7 +142,8 @@ module _ (t : Trial) (ok : Accepted (t .source)) where
     pub branch-row : hardenedGraph t n ≡ branch (b .comparison) (b .left) (b .right) e (e + 1)
     branch-row = own-row t n (b .here) ∙ rw (b .is-branch)
 
-    group-row : (j : ℕ) → j < 7 → hardenedGraph t (e + j) ≡ getD (branchGroup R (s .nodes + 1) e (signOf t n) (b .comparison) (b .left) (b .right) (b .then) (b .else) (signOf t (b .then)) (signOf t (b .else))) j stop
+    group-row : (j : ℕ) → j < 7
+        → hardenedGraph t (e + j) ≡ getD (branchGroup R (s .nodes + 1) e (signOf t n) (b .comparison) (b .left) (b .right) (b .then) (b .else) (signOf t (b .then)) (signOf t (b .else))) j stop
     group-row j h =
         let inside : j < extraOf s n = rw (b .is-branch) h in
         rw (b .is-branch) at (extra-row t n j (b .here) inside)
@@ -168,7 +171,8 @@ module _ (t : Trial) (ok : Accepted (t .source)) where
       test-along along (way .from .comparison) (way .from .left) (way .from .right) (inside .1) (inside .2) ∙ way .outcome
 
   -- the way that a machine at a branch is about to leave it
-  abbrev pub way-from : (σ : Machine) {n : ℕ} (b : BranchAt t n) (w : Bool) → compare (b .comparison) (get σ (b .left)) (operandOf σ (b .right)) ≡ w → Way t n w (branchTo σ (side b w))
+  abbrev pub way-from : (σ : Machine) {n : ℕ} (b : BranchAt t n) (w : Bool) → compare (b .comparison) (get σ (b .left)) (operandOf σ (b .right)) ≡ w
+      → Way t n w (branchTo σ (side b w))
   way-from σ b w h = record { from = b; outcome = ap (compare (b .comparison) (get σ (b .left))) (branch-operand σ (side b w) (b .right)) ∙ h; target = refl }
 
   -- after the first test RTS is prepared for the target that it chose

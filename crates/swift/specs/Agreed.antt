@@ -101,13 +101,16 @@ sourceScore g inputs = scored (scoring (headerOf g) (g .words) inputs)
 abbrev pub hardenedScore : Graph → List ℕ → Line
 hardenedScore g inputs = scored (andThen (hardening g) λ h. scoring h (tableFor g) inputs)
 
+-- the outcome, steps, branches and events
 abbrev pub reports : Outcome → ℕ → ℕ → List ℕ → Line
 reports outcome steps branches events = ran (given (record { outcome = outcome; steps = steps; branches = branches; events = events }))
 
+-- positions, then caught, late, harmless, changed and unended
 abbrev pub scores : (positions caught late harmless changed unended : ℕ) → Line
 scores positions caught late harmless changed unended =
     scored (given (record { positions = positions; caught = caught; late = late; harmless = harmless; changed = changed; unended = unended }))
 
+-- the hardened graph's R, H and entry
 abbrev pub sized : Graph → Line
 sized g = hardensTo (hardening g)
 
@@ -126,24 +129,24 @@ infix 20 _is_
 -- P1 to P12
 unfoldable pub table : List Case
 table =
-    (source graphA (7 ∷ []) is reports (Returned 0) 4 1 (1 ∷ 7 ∷ []))
-    ∷ (hardenedWith graphA (7 ∷ []) Undisturbed is reports (Returned 0) 12 4 (1 ∷ 7 ∷ []))
-    ∷ (source graphA [] is reports (Returned 9) 4 1 [])
-    ∷ (hardenedWith graphA [] Undisturbed is reports (Returned 9) 12 4 [])
-    ∷ (hardenedWith graphA (7 ∷ []) (Inverted 0) is reports Caught 8 3 [])
-    ∷ (hardenedWith graphA (7 ∷ []) (Inverted 1) is reports Caught 8 3 [])
-    ∷ (hardenedWith graphA (7 ∷ []) (Inverted 2) is reports Caught 8 3 [])
-    ∷ (hardenedWith graphA (7 ∷ []) (Inverted 3) is reports Caught 12 4 (1 ∷ 7 ∷ []))
-    ∷ (sourceScore graphA (7 ∷ []) is scores 1 0 0 0 1 0)
-    ∷ (hardenedScore graphA (7 ∷ []) is scores 4 4 0 0 0 0)
-    ∷ (sized oneTarget is sizes 3 11 2)
-    ∷ (hardenedWith oneTarget [] Undisturbed is reports (Returned 0) 7 3 [])
-    ∷ (hardenedScore oneTarget [] is scores 3 1 0 2 0 0)
-    ∷ (sized oneRet is sizes 3 3 1)
-    ∷ (hardenedWith oneRet [] Undisturbed is reports (Returned 0) 2 0 [])
-    ∷ (hardenedScore oneRet [] is scores 0 0 0 0 0 0)
-    ∷ (sized oneLoop is sizes 3 6 1)
-    ∷ (hardenedScore oneLoop [] is scored (refused 13 0))
+    (source graphA (7 ∷ []) is reports (Returned 0) 4 1 (1 ∷ 7 ∷ []))  -- P1
+    ∷ (hardenedWith graphA (7 ∷ []) Undisturbed is reports (Returned 0) 12 4 (1 ∷ 7 ∷ []))  -- P2
+    ∷ (source graphA [] is reports (Returned 9) 4 1 [])  -- P3
+    ∷ (hardenedWith graphA [] Undisturbed is reports (Returned 9) 12 4 [])  -- P3, hardened
+    ∷ (hardenedWith graphA (7 ∷ []) (Inverted 0) is reports Caught 8 3 [])  -- P4
+    ∷ (hardenedWith graphA (7 ∷ []) (Inverted 1) is reports Caught 8 3 [])  -- P5
+    ∷ (hardenedWith graphA (7 ∷ []) (Inverted 2) is reports Caught 8 3 [])  -- P6
+    ∷ (hardenedWith graphA (7 ∷ []) (Inverted 3) is reports Caught 12 4 (1 ∷ 7 ∷ []))  -- P7
+    ∷ (sourceScore graphA (7 ∷ []) is scores 1 0 0 0 1 0)  -- P8
+    ∷ (hardenedScore graphA (7 ∷ []) is scores 4 4 0 0 0 0)  -- P9
+    ∷ (sized oneTarget is sizes 3 11 2)  -- P10
+    ∷ (hardenedWith oneTarget [] Undisturbed is reports (Returned 0) 7 3 [])  -- P10, run
+    ∷ (hardenedScore oneTarget [] is scores 3 1 0 2 0 0)  -- P10, campaign
+    ∷ (sized oneRet is sizes 3 3 1)  -- P11
+    ∷ (hardenedWith oneRet [] Undisturbed is reports (Returned 0) 2 0 [])  -- P11, run
+    ∷ (hardenedScore oneRet [] is scores 0 0 0 0 0 0)  -- P11, campaign
+    ∷ (sized oneLoop is sizes 3 6 1)  -- P12
+    ∷ (hardenedScore oneLoop [] is scored (refused 13 0))  -- P12, campaign
     ∷ []
 
 pub all-agreed : map (λ c. c .found) table ≡ map (λ c. c .agreed) table

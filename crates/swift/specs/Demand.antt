@@ -90,7 +90,7 @@ pub record Follows (t : Trial) (rounds : ℕ) : Type 0 where
   pub agree : Agree (t .source .registers) (beside t rounds .machine) (sourceRun t rounds .machine)
   pub alike : beside t rounds .status ≡ sourceRun t rounds .status
 
--- the undisturbed hardened run executes a branch, and its place among the branches executed is this
+-- after these rounds the undisturbed hardened run executes a branch, whose place among the branches executed is this
 pub record Executes (t : Trial) (place rounds : ℕ) : Type 0 where
   pub under-way : hardenedRun t Undisturbed rounds .status ≡ going
   pub at-branch : isBranch (hardenedGraph t (hardenedRun t Undisturbed rounds .machine .node)) ≡ true
@@ -136,6 +136,14 @@ abbrev pub Answered : Trial → ℕ → ℕ → Type 0
 Answered t place rounds =
     let test = OneTarget (t .source) (hardenedRun t Undisturbed rounds .machine .node) in
     (test × Unchanged t place rounds) ⊎ ((test → ⊥) × CaughtSoon t place rounds)
+
+-- the same within a budget: with two steps left after the inverted branch the run is the undisturbed one, or with five left it
+-- ends caught
+abbrev pub AnsweredWithin : Trial → ℕ → ℕ → ℕ → Type 0
+AnsweredWithin t place rounds budget =
+    let test = OneTarget (t .source) (hardenedRun t Undisturbed rounds .machine .node) in
+    (test × (rounds + 1 + 2 ≤ budget → hardenedRun t (Inverted place) budget ≡ hardenedRun t Undisturbed budget))
+    ⊎ ((test → ⊥) × (rounds + 1 + soon ≤ budget → CaughtBy t place rounds budget))
 
 -- the undisturbed hardened run returns this value within its budget, with five steps to spare
 pub record Returns (t : Trial) (budget value : ℕ) : Type 0 where
