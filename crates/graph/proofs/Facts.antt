@@ -3,21 +3,19 @@
 use mathlib.Core.Path.{_≡_, refl, sym, ap, _∙_}
 use mathlib.Core.Bool.{true}
 use mathlib.Core.List.{List, [], _∷_}
-use Prim.Native.Nat.{ℕ, zero, suc, _+_, _*_, _/_, _%_, _≤_, _<_}
-use native.Mathlib.Nat.{add-zero}
+use Prim.Native.Nat.{ℕ, suc, _+_, _*_, _/_, _%_, _≤_, _<_}
 use native.Mathlib.Numerals.{add-one}
 use native.Mathlib.Omega.{arith}
 use lib.ListN.{length, getD, take, drop}
 use lib.Seq.{drop-cons, getD-take, getD-drop}
 use Rattle.words.specs.Answer.{Answer, given, refused, andThen}
-use Rattle.graph.specs.declared.Limits.{Limits}
 use Rattle.graph.specs.declared.Role.{Role}
 use Rattle.graph.specs.declared.Role.the-variants.{Kind, Operator, Comparison, Port, Register, Target, Free, Spare}
 use Rattle.graph.specs.Limits.{runnable, source}
 use Rattle.graph.specs.Kinds.{roleAt, fault}
 use Rattle.graph.specs.Nodes.{nodeAt, wordsOf}
 use Rattle.graph.specs.Paths.{PathIn, marked, reached}
-use Rattle.graph.specs.Accepted.{NodeIn, NoCatch, RunnableGraph, SourceGraph}
+use Rattle.graph.specs.Accepted.{RunnableGraph, SourceGraph}
 use Rattle.graph.specs.Checks.{faultAt, tableCheck, reachCheck, runnableCheck, sourceCheck}
 use Rattle.graph.proofs.Ranges.{range-in}
 use Rattle.graph.proofs.Passed.{Passed, table-passed, table-given}

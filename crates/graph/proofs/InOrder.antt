@@ -1,7 +1,7 @@
 -- Six words in order in their roles are the words of a node whose registers and targets are in range; so is each row of
 -- an accepted table.
 -- Assumes nothing.
-use mathlib.Core.Path.{_≡_, refl, sym, ap, _∙_}
+use mathlib.Core.Path.{_≡_, refl}
 use mathlib.Core.Bool.{Bool, true, false, cond}
 use mathlib.Core.List.{List, [], _∷_}
 use Prim.Native.Nat.{ℕ, zero, suc, _+_, _*_, _/_, _%_, _≤_, _<_}
@@ -11,10 +11,9 @@ use borrow.Author.Tests.{ltb-true, eqb-true}
 use lib.ListN.{getD}
 use lib.Dec.{eqb, ltb}
 use Rattle.graph.specs.declared.Limits.{Limits}
-use Rattle.graph.specs.declared.Role.{Role}
-use Rattle.graph.specs.declared.Role.the-variants.{Kind, Operator, Comparison, Port, Register, Target, Free, Spare}
+use Rattle.graph.specs.declared.Role.the-variants.{Kind, Operator, Comparison, Port, Register, Target, Spare}
 use Rattle.graph.specs.Kinds.{layouts, roleAt, fault, inRange}
-use Rattle.graph.specs.Nodes.{Node, nodeOf, nodeAt, wordsOf}
+use Rattle.graph.specs.Nodes.{nodeOf, nodeAt, wordsOf}
 use Rattle.graph.specs.Accepted.{NodeIn, NoCatch}
 use Rattle.graph.specs.Checks.{faultAt}
 use Rattle.graph.proofs.Ranges.{in-range}

@@ -5,9 +5,12 @@ pub mod Words
 pub mod Passed
 pub mod InOrder
 pub mod Marking
+pub mod Bytes
 pub mod Rounds
+pub mod Sweeps
 pub mod Reached
 pub mod Unmarked
+pub mod Sources
 pub mod Refusals
 pub mod Facts
 pub mod Unreachable

@@ -1,18 +1,18 @@
 -- What is computed as reached is what a path of edges reaches, and then some path has no more edges than there are nodes.
 -- Assumes nothing.
-use mathlib.Core.Path.{_≡_, refl, sym, ap, subst, _∙_}
-use mathlib.Core.Bool.{Bool, true, false}
+use mathlib.Core.Path.{_≡_}
+use mathlib.Core.Bool.{true}
 use mathlib.Core.List.{List, [], _∷_, List·Memᴰ, List·Memᴰ·not-nil, List·Memᴰ·cases-cons, List·Memᴰ·eq-of-singleton}
 use mathlib.Core.Logic.{_↔_, ⊎-elim}
-use Prim.Native.Nat.{ℕ, zero, suc, _+_, _≤_, _<_}
+use Prim.Native.Nat.{ℕ, zero, suc, _≤_, _<_}
 use native.Mathlib.Omega.{arith}
-use Rattle.words.specs.Answer.{Answer, given}
+use Rattle.words.specs.Answer.{given}
 use Rattle.graph.specs.Limits.{source}
 use Rattle.graph.specs.Nodes.{Node, go, branch, ret, stop, nodeAt, targets}
-use Rattle.graph.specs.Paths.{Path, empty, along, PathIn, start, onward, Marks, marked, reachedIn, reached}
+use Rattle.graph.specs.Paths.{Path, empty, along, PathIn, start, onward, marked, reachedIn, reached}
 use Rattle.graph.specs.Accepted.{NodeIn}
 use Rattle.graph.specs.Checks.{tableCheck}
-use Rattle.graph.proofs.Passed.{Passed, table-passed}
+use Rattle.graph.proofs.Passed.{table-passed}
 use Rattle.graph.proofs.InOrder.{table-node-in}
 use Rattle.graph.proofs.Rounds.{in-none, in-only, reached-closed, reached-entry}
 

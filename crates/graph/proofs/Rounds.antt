@@ -1,18 +1,18 @@
 -- Rounds over marks: a round looks at the nodes upward and marks the targets of some. Enough rounds close the marks under
 -- edges, and closed marks hold all that is reached. Assumes nothing.
-use mathlib.Core.Path.{_≡_, refl, sym, ap, _∙_}
+use mathlib.Core.Path.{_≡_, refl, _∙_}
 use mathlib.Core.Bool.{Bool, true, false, cond}
 use mathlib.Core.Logic.{_⊎_, inl, inr, ⊎-elim}
-use mathlib.Core.List.{List, [], _∷_, List·Memᴰ}
-use Prim.Native.Nat.{ℕ, zero, suc, _+_, _≤_, _<_}
+use mathlib.Core.List.{List·Memᴰ}
+use Prim.Native.Nat.{ℕ, zero, suc, _≤_, _<_}
 use native.Mathlib.Omega.{arith}
 use native.Mathlib.Nat.{eq-or-lt-of-le}
 use native.Mathlib.Decide.{decLe}
-use lib.ListN.{length, getD, set, replicate, length-set, length-replicate}
+use lib.ListN.{length, replicate, length-set, length-replicate}
 use Rattle.graph.specs.Nodes.{Node, targets}
 use Rattle.graph.specs.Paths.{Marks, marked, markAll, followed, reachedIn, reached}
-use Rattle.graph.specs.Marks.{count, swept}
-use Rattle.graph.proofs.Marking.{set-only, set-there, none-marked, marked-in, all-length, all-more, all-there, all-only, count-in, count-full, count-more}
+use Rattle.graph.specs.Marks.{count}
+use Rattle.graph.proofs.Marking.{set-only, set-there, none-marked, all-length, all-more, all-there, all-only, count-full, count-more}
 
 -- marks of the nodes below a bound that hold the targets of what is marked
 abbrev pub Closed : (ℕ → Node) → ℕ → Marks → Type 0

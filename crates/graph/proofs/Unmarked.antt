@@ -1,19 +1,33 @@
 -- The search for the lowest node without a mark: what it answers, and that only the marks of the nodes it looks at decide.
 -- Assumes nothing.
-use mathlib.Core.Path.{_≡_, refl, sym, ap, _∙_}
+use mathlib.Core.Path.{_≡_, refl, ap, _∙_}
 use mathlib.Core.Bool.{Bool, true, false, cond}
 use mathlib.Core.Logic.{⊎-elim}
 use Prim.Native.Nat.{ℕ, zero, suc, _+_, _-_, _≤_, _<_}
 use native.Mathlib.Nat.{eq-or-lt-of-le}
 use native.Mathlib.Omega.{arith}
-use Rattle.words.specs.Answer.{Answer, given, refused}
+use Rattle.words.specs.Answer.{given, refused}
 use Rattle.graph.specs.Paths.{Marks, marked}
 use Rattle.graph.specs.Checks.{unmarkedFrom}
 
-pub unmarked-step : (marks : Marks) (left n : ℕ)
-    → unmarkedFrom marks (suc left) n ≡ cond (marked marks n) (unmarkedFrom marks left (n + 1)) (refused 9 n)
+-- with nodes left, the mark of the next one decides
+module _ (marks : Marks) (nodes n : ℕ) (inside : n < nodes) where
+  unmarked-step : unmarkedFrom marks (nodes - n) n ≡ cond (marked marks n) (unmarkedFrom marks (nodes - (n + 1)) (n + 1)) (refused 9 n)
+  unfolding unmarkedFrom
+  unmarked-step =
+      let more : nodes - n ≡ suc (nodes - (n + 1)) = omega arith in
+      ap (λ (left : ℕ). unmarkedFrom marks left n) more
+
+  pub unmarked-pass : marked marks n ≡ true → unmarkedFrom marks (nodes - n) n ≡ unmarkedFrom marks (nodes - (n + 1)) (n + 1)
+  unmarked-pass mark = unmarked-step ∙ rw mark
+
+  pub unmarked-stop : marked marks n ≡ false → unmarkedFrom marks (nodes - n) n ≡ refused 9 n
+  unmarked-stop bare = unmarked-step ∙ rw bare
+
+pub unmarked-end : (marks : Marks) (nodes n : ℕ) → nodes ≤ n → unmarkedFrom marks (nodes - n) n ≡ given tt
 unfolding unmarkedFrom
-unmarked-step marks left n = refl
+unmarked-end marks nodes n past =
+    let none : nodes - n ≡ 0 = omega arith in ap (λ (left : ℕ). unmarkedFrom marks left n) none
 
 -- the lowest node without a mark among those from n upward
 pub record Lowest (marks : Marks) (left n number place : ℕ) : Type 0 where

@@ -2,18 +2,18 @@
 -- Assumes nothing.
 use mathlib.Core.Path.{_≡_, refl}
 use mathlib.Core.Bool.{Bool, true, false}
-use mathlib.Core.Logic.{_↔_, _⊎_, ⊎-elim}
+use mathlib.Core.Logic.{_↔_, ⊎-elim}
 use mathlib.Core.List.{List, [], _∷_}
 use Prim.Native.Nat.{ℕ, _<_}
 use native.Mathlib.Omega.{arith}
-use Rattle.words.specs.Answer.{Answer, given, refused, andThen}
+use Rattle.words.specs.Answer.{given, refused}
 use Rattle.graph.specs.Limits.{source}
 use Rattle.graph.specs.Kinds.{layouts, roleAt}
 use Rattle.graph.specs.Nodes.{nodeOf, nodeAt}
 use Rattle.graph.specs.Paths.{Path, marked, followed, reachedIn, reached}
 use Rattle.graph.specs.Checks.{faultAt, wordsFrom, tableCheck, unmarkedFrom, reachCheck, sourceCheck}
 use Rattle.graph.proofs.Refusals.{and-refused, table-refusal}
-use Rattle.graph.proofs.Unmarked.{Lowest, unmarked-lowest, lowest-unmarked}
+use Rattle.graph.proofs.Unmarked.{unmarked-lowest, lowest-unmarked}
 use Rattle.graph.proofs.Reached.{reached-path}
 
 module _ (registers nodes entry : ℕ) (table : List ℕ) (n : ℕ) where

@@ -1,13 +1,13 @@
 -- The walk over a table's words: a word in order hands the check on, the first fault ends it.
 -- Assumes nothing.
-use mathlib.Core.Path.{_≡_, refl, sym, ap, _∙_}
-use mathlib.Core.Bool.{Bool, cond}
-use Prim.Native.Nat.{ℕ, zero, suc, _+_, _-_, _≤_, _<_}
+use mathlib.Core.Path.{_≡_, refl, ap, _∙_}
+use mathlib.Core.Bool.{cond}
+use Prim.Native.Nat.{ℕ, suc, _+_, _-_, _≤_, _<_}
 use mathlib.Core.List.{List}
 use native.Mathlib.Omega.{arith}
 use borrow.Author.Tests.{eq-eqb, ne-eqb}
 use lib.Dec.{eqb}
-use Rattle.words.specs.Answer.{Answer, refused}
+use Rattle.words.specs.Answer.{refused}
 use Rattle.graph.specs.Checks.{faultAt, wordsFrom}
 
 module _ (kinds registers nodes : ℕ) (table : List ℕ) where

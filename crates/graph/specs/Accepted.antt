@@ -1,6 +1,6 @@
 -- Document 01, "The graph": what holds of an accepted graph, node by node. The checks establish it (proofs/Facts.antt).
 -- Assumes nothing.
-use Prim.Native.Nat.{ℕ, _+_, _≤_, _<_}
+use Prim.Native.Nat.{ℕ, _≤_, _<_}
 use Rattle.graph.specs.Nodes.{Node, go, branch, ret, stop, Action, const, op, input, output, Operand, register, constant}
 use Rattle.graph.specs.Paths.{Path}
 

@@ -1,7 +1,7 @@
 -- Document 01, "The graph": every node of a source is reachable from the entry by some path of edges, the entry by the empty one.
 -- `Path` says it; `reached` computes it, in rounds that each follow one edge more.
 -- Assumes nothing.
-use Prim.Native.Nat.{ℕ, zero, suc, _+_}
+use Prim.Native.Nat.{ℕ, zero, suc}
 use mathlib.Core.Bool.{Bool, true, false, cond}
 use mathlib.Core.List.{List, [], _∷_, List·Memᴰ}
 use lib.ListN.{getD, set, replicate}

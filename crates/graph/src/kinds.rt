@@ -1,5 +1,4 @@
 // The kinds: the role of each word, which words are in order in a role, and where a node's edges lead.
-ghost use Prim.Native.Nat.{_<_};
 ghost use mathlib.Core.Path.{_≡_};
 ghost use mathlib.Core.Bool.{cond};
 ghost use mathlib.Core.List.{[], _∷_};
@@ -8,6 +7,13 @@ ghost use Rattle.graph.specs.Kinds.{roleAt, fault, inRange};
 ghost use Rattle.graph.specs.Nodes.{targets, nodeAt};
 ghost use Rattle.graph.specs.Successors.{targetsOf};
 use super::Role;
+use super::Role::Comparison;
+use super::Role::Free;
+use super::Role::Operator;
+use super::Role::Port;
+use super::Role::Register;
+use super::Role::Spare;
+use super::Role::Target;
 use super::Successors;
 
 // The role of a word of a node, by the five fields of its kind.
@@ -38,62 +44,13 @@ pub fn role_at(kind: u32, word: usize) -> Role
 {
     match kind {
         0 => no_field(word),
-        1 => field(
-            word,
-            Role::Register,
-            Role::Free,
-            Role::Target,
-            Role::Spare,
-            Role::Spare,
-        ),
-        2 => field(
-            word,
-            Role::Operator,
-            Role::Register,
-            Role::Register,
-            Role::Register,
-            Role::Target,
-        ),
-        3 => field(
-            word,
-            Role::Comparison,
-            Role::Register,
-            Role::Register,
-            Role::Target,
-            Role::Target,
-        ),
-        4 => field(
-            word,
-            Role::Comparison,
-            Role::Register,
-            Role::Free,
-            Role::Target,
-            Role::Target,
-        ),
-        5 => field(
-            word,
-            Role::Register,
-            Role::Target,
-            Role::Spare,
-            Role::Spare,
-            Role::Spare,
-        ),
-        6 => field(
-            word,
-            Role::Port,
-            Role::Register,
-            Role::Target,
-            Role::Spare,
-            Role::Spare,
-        ),
-        7 => field(
-            word,
-            Role::Register,
-            Role::Spare,
-            Role::Spare,
-            Role::Spare,
-            Role::Spare,
-        ),
+        1 => field(word, Register, Free, Target, Spare, Spare),
+        2 => field(word, Operator, Register, Register, Register, Target),
+        3 => field(word, Comparison, Register, Register, Target, Target),
+        4 => field(word, Comparison, Register, Free, Target, Target),
+        5 => field(word, Register, Target, Spare, Spare, Spare),
+        6 => field(word, Port, Register, Target, Spare, Spare),
+        7 => field(word, Register, Spare, Spare, Spare, Spare),
         8 => no_field(word),
         9.. => no_field(word),
     }

@@ -4,6 +4,8 @@ ghost use Rattle.graph.specs.Limits.{runnable, source};
 ghost use Rattle.graph.specs.Checks.{checkOf, runnableCheck, sourceCheck};
 
 mod kinds;
+mod marks;
+mod reach;
 mod table;
 
 pub use kinds::fault;
@@ -88,4 +90,16 @@ pub fn check_runnable(registers: usize, nodes: usize, entry: usize, table: &[u32
     ensures { λ r. ⌜ checkOf r ≡ runnableCheck registers nodes entry (now (table .entry)) ⌝ }
 {
     table::check(Limits::runnable(), registers, nodes, entry, table)
+}
+
+// Whether a table holds a source graph: accepted, or the first refusal.
+pub fn check_source(registers: usize, nodes: usize, entry: usize, table: &[u32]) -> Check
+    ensures { λ r. ⌜ checkOf r ≡ sourceCheck registers nodes entry (now (table .entry)) ⌝ }
+{
+    let first = table::check(Limits::source(), registers, nodes, entry, table);
+    let Check::Accepted = first else {
+        return first;
+    };
+    let marks = reach::reached(nodes, entry, table);
+    marks::lowest_unmarked(&marks, nodes)
 }

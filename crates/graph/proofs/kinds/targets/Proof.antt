@@ -2,7 +2,7 @@
 use mathlib.Core.Path.{_∙_, sym, ap, ap₂}
 use Prim.Native.Nat.{ℕ}
 use native.Mathlib.Omega.{arith}
-use mathlib.Core.List.{List, [], _∷_}
+use mathlib.Core.List.{[], _∷_}
 use Rattle.words.proofs.Arms.{none-from}
 use Rattle.graph.specs.Nodes.{nodeOf}
 use Rattle.graph.proofs.Rows.{targets-kind, targets-unknown, targets-past}
