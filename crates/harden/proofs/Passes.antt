@@ -14,7 +14,9 @@ use Rattle.graph.specs.Nodes.{Node, targets}
 use Rattle.graph.specs.Successors.{targetsOf}
 use Rattle.graph.specs.declared.Successors.{Successors}
 use Rattle.graph.specs.declared.Successors.the-variants.{None, One, Two}
-use Rattle.harden.specs.Passes.{zeros, leads, higher, graded, gradesBelow, preceded, precedersBelow, headBy, leadersBelow, filled}
+use Rattle.harden.specs.Passes.{zeros, leads, higher, graded, gradesBelow, preceded, precedersBelow, headBy, leadersBelow, filled, firstTo}
+use Rattle.harden.specs.Blocks.{crosses}
+use Rattle.harden.specs.Hardened.{extra}
 use Rattle.harden.proofs.Successors.{no-edge, one-edge, two-edges}
 
 pub zeros-length : length zeros ≡ 256
@@ -85,3 +87,23 @@ pub head-back : (grades preceders : List ℕ) (left at : ℕ) {led : Bool} {w : 
 unfolding headBy
 head-back grades preceders zero at h read led e = absurd (not-suc-le-zero h)
 head-back grades preceders (suc left) at h read led e = rw (← read, led, e, sub-one)
+
+-- a node's extra nodes and its first edge, by where its edges lead
+module _ (led : ℕ → Bool) (node : Node) {r : Successors} (read : targetsOf r ≡ targets node) where
+  pub extra-none : r ≡ None → 0 ≡ extra (crosses led node) node
+  extra-none known = ⊎-elim (λ e. rw (e .1)) (λ e. rw e) (no-edge node read known .ends)
+
+  pub extra-one : {next : ℕ} {answer : Bool} (test : Bool) → r ≡ One next → answer ≡ led next → answer ≡ test → cond test 3 0 ≡ extra (crosses led node) node
+  extra-one test known p q = rw (one-edge node read known .is, ← p, q)
+
+  pub extra-two : {then else : ℕ} → r ≡ Two then else → 7 ≡ extra (crosses led node) node
+  extra-two known = rw (two-edges node read known .is)
+
+  pub first-none : (e : ℕ) → r ≡ None → 0 ≡ firstTo e (crosses led node) node
+  first-none e known = ⊎-elim (λ p. rw (p .1)) (λ p. rw p) (no-edge node read known .ends)
+
+  pub first-one : (e : ℕ) {next : ℕ} {answer : Bool} (test : Bool) → r ≡ One next → answer ≡ led next → answer ≡ test → cond test e next ≡ firstTo e (crosses led node) node
+  first-one e test known p q = rw (one-edge node read known .is, ← p, q)
+
+  pub first-two : (e : ℕ) {then else : ℕ} → r ≡ Two then else → e ≡ firstTo e (crosses led node) node
+  first-two e known = rw (two-edges node read known .is)

@@ -1,14 +1,16 @@
 -- What the passes of the hardener compute, for the contracts of its private functions: no public contract cites this file.
 -- Assumes nothing.
-use Prim.Native.Nat.{ℕ, zero, suc, _+_, _*_}
+use Prim.Native.Nat.{ℕ, zero, suc, _+_, _*_, _<_}
+use mathlib.Core.Path.{_≡_}
 use mathlib.Core.Bool.{Bool, true, false, cond}
 use mathlib.Core.List.{List, [], _∷_, _++_}
 use lib.ListN.{getD, set, replicate}
 use lib.Dec.{eqb}
 use Rattle.words.specs.Buffer.{put}
-use Rattle.graph.specs.Nodes.{Node, go, branch, ret, stop}
+use Rattle.graph.specs.Nodes.{Node, go, branch, ret, stop, nodeAt}
+use Rattle.graph.specs.Accepted.{SourceGraph}
 use Rattle.harden.specs.Blocks.{onePlusRank}
-use Rattle.harden.specs.Hardened.{tableOf, prepare, update, check}
+use Rattle.harden.specs.Hardened.{tableOf, prepare, update, check, isLeader, sign, sourceOf}
 
 -- as many zeros as a source has nodes at most
 unfoldable pub zeros : List ℕ
@@ -97,3 +99,19 @@ branching registers catch e sign n node t f =
     retest registers e sign n node t f
     ++ arrival registers catch (e + 3) (sign t) t
     ++ arrival registers catch (e + 5) (sign f) f
+
+-- where the first edge of a source node goes in the hardened graph
+abbrev pub firstTo : ℕ → Bool → Node → ℕ
+firstTo e crossing (go action next) = cond crossing e next
+firstTo e crossing (branch c a b then else) = e
+firstTo e crossing (ret a) = 0
+firstTo e crossing stop = 0
+
+-- grades that are right for an accepted source
+pub record Led (registers nodes entry : ℕ) (table grades : List ℕ) : Type 0 where
+  pub accepted : SourceGraph registers nodes entry (nodeAt table)
+  pub right : (n : ℕ) → n < nodes → leads grades n ≡ isLeader (sourceOf registers nodes entry table) n
+
+-- and signatures
+pub record Signed (registers nodes entry : ℕ) (table signatures : List ℕ) : Type 0 where
+  pub right : (n : ℕ) → n < nodes → signed signatures n ≡ sign (sourceOf registers nodes entry table) n

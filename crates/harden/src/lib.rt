@@ -4,6 +4,7 @@ use graph::Header;
 mod blocks;
 mod groups;
 mod leaders;
+mod whole;
 mod writing;
 
 // What hardening answers: the hardened graph's R, N and entry, or the refusal's number and place.
