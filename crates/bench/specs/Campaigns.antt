@@ -11,8 +11,8 @@ use Rattle.graph.specs.Nodes.{nodeAt}
 use Rattle.graph.specs.Checks.{runnableCheck}
 use Rattle.bench.specs.Steps.{Machine, Setting, Status, going, ended, Progress, start}
 use Rattle.bench.specs.Runs.{runOf, settled, mostSteps}
-use Rattle.bench.specs.declared.Campaign.{Campaign}
-use Rattle.bench.specs.declared.Campaign.the-variants.{Scored, Refused}
+use Rattle.bench.specs.declared.CampaignAnswer.{CampaignAnswer}
+use Rattle.bench.specs.declared.CampaignAnswer.the-variants.{Scored, Refused}
 use Rattle.bench.specs.declared.Fault.{Fault}
 use Rattle.bench.specs.declared.Fault.the-variants.{Undisturbed, Inverted}
 use Rattle.bench.specs.declared.Outcome.{Outcome}
@@ -20,7 +20,7 @@ use Rattle.bench.specs.declared.Outcome.the-variants.{Returned, Caught, 
 use Rattle.bench.specs.declared.Score.{Score}
 
 -- document 01's numbers for each case of a campaign
-abbrev pub campaignOf : Campaign → Answer Score
+abbrev pub campaignOf : CampaignAnswer → Answer Score
 campaignOf (Scored score) = given score
 campaignOf (Refused number place) = refused number place
 

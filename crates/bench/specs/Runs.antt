@@ -1,6 +1,6 @@
 -- Document 01, "Running and scoring": a run, and what it answers and writes.
 -- Assumes nothing.
-use Prim.Native.Nat.{ℕ, zero, suc}
+use Prim.Native.Nat.{ℕ, zero, suc, _/_}
 use mathlib.Core.List.{List}
 use lib.ListN.{length}
 use lib.Dec.{leb}
@@ -12,7 +12,7 @@ use Rattle.bench.specs.Steps.{Machine, Setting, Status, going, ended, Pr
 use Rattle.bench.specs.declared.Fault.{Fault}
 use Rattle.bench.specs.declared.Outcome.{Outcome}
 use Rattle.bench.specs.declared.Outcome.the-variants.{Spent}
-use Rattle.bench.specs.declared.Run.{Run}
+use Rattle.bench.specs.declared.RunAnswer.{RunAnswer}
 use Rattle.bench.specs.declared.State.{State}
 use Rattle.bench.specs.declared.Verdict.{Verdict}
 use Rattle.bench.specs.declared.Verdict.the-variants.{Ran, Refused}
@@ -43,10 +43,10 @@ runOf s fault entry budget = after s fault (at (start entry) going) budget
 abbrev pub stateOf : Machine → State
 stateOf m = record { registers = m .registers; node = m .node; steps = m .steps; branches = m .branches; reads = m .reads }
 
--- what a run answers: document 01's values, and on a refusal the number and the place beside a state and a count of zeros
-abbrev pub answerOf : Answer Progress → Run
+-- what a run answers: document 01's values, an event being two words, and on a refusal the number and the place beside a state and a count of zeros
+abbrev pub answerOf : Answer Progress → RunAnswer
 answerOf (given p) =
-    record { verdict = Ran (settled (p .status)); state = stateOf (p .machine); events = length (p .machine .events) }
+    record { verdict = Ran (settled (p .status)); state = stateOf (p .machine); events = length (p .machine .events) / 2 }
 answerOf (refused number place) = record { verdict = Refused number place; state = stateOf (start 0); events = 0 }
 
 -- the largest budget

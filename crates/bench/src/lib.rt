@@ -1,4 +1,10 @@
 // One step, a run, a campaign.
+mod machine;
+mod operators;
+mod runs;
+mod steps;
+
+pub use machine::run;
 
 // The machine's state: its registers, the node to execute next, and what has been counted so far.
 pub struct State {
@@ -30,7 +36,7 @@ pub enum Verdict {
 }
 
 // A run's answer: the verdict, and beside it the last state and the number of events, all 0 on a refusal.
-pub struct Run {
+pub struct RunAnswer {
     pub verdict: Verdict,
     pub state: State,
     pub events: usize,
@@ -47,7 +53,7 @@ pub struct Score {
 }
 
 // What a campaign answers: the score, or the refusal's number and place.
-pub enum Campaign {
+pub enum CampaignAnswer {
     Scored(Score),
     Refused(u32, usize),
 }

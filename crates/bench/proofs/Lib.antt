@@ -1,0 +1,9 @@
+-- What holds of steps, runs and campaigns.
+pub mod Effects
+pub mod Bounds
+pub mod Growth
+pub mod Rounds
+pub mod Faults
+pub mod Prefixes
+pub mod Turns
+pub mod Checked

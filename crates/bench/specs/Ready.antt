@@ -1,0 +1,43 @@
+-- Document 01, "Running and scoring": what is known of a run under way on a checked graph. The private functions ask for it.
+-- Assumes nothing.
+use Prim.Native.Nat.{ℕ, _*_, _≤_, _<_}
+use mathlib.Core.List.{List}
+use lib.ListN.{length, take}
+use Rattle.graph.specs.Nodes.{nodeAt}
+use Rattle.graph.specs.Accepted.{NodeIn}
+use Rattle.bench.specs.Steps.{Setting, Progress, Status, going, ended, at}
+use Rattle.bench.specs.Runs.{after, settled, stateOf}
+use Rattle.bench.specs.Effects.{machineOf}
+use Rattle.bench.specs.declared.Fault.{Fault}
+use Rattle.bench.specs.declared.State.{State}
+use Rattle.bench.specs.declared.runs.Ended.{Ended}
+use Rattle.bench.specs.declared.runs.Ending.{Ending}
+use Rattle.bench.specs.declared.runs.Ending.the-variants.{Not, With}
+
+-- a node of a graph in a table, whose nodes name registers below 64 and each other
+pub record Inside (table : List ℕ) (node : ℕ) : Type 0 where
+  pub nodes : ℕ
+  pub inside : node < nodes
+  pub room : 6 * nodes ≤ length table
+  pub node-in : (n : ℕ) → n < nodes → NodeIn 64 nodes (nodeAt table n)
+
+-- a state that a run with a budget can be in
+pub record Ready (table : List ℕ) (budget : ℕ) (state : State) : Type 0 where
+  pub inside : Inside table (state .node)
+  pub in-budget : state .steps ≤ budget
+  pub branches : state .branches ≤ state .steps
+  pub reads : state .reads ≤ state .steps
+
+abbrev pub settingOf : List ℕ → List ℕ → ℕ → Setting
+settingOf table inputs room = record { graph = nodeAt table; inputs = inputs; room = room }
+
+-- what the rounds of the budget that are left make of a state, the words of the events so far lying at the head of a buffer
+unfoldable pub restOf : Setting → Fault → State → ℕ → List ℕ → ℕ → Progress
+restOf s fault state words buffer rounds = after s fault (at (machineOf state (take words buffer)) going) rounds
+
+abbrev pub endedOf : Progress → Ended
+endedOf p = record { outcome = settled (p .status); state = stateOf (p .machine); words = length (p .machine .events) }
+
+abbrev pub statusOf : Ending → Status
+statusOf Not = going
+statusOf (With outcome) = ended outcome

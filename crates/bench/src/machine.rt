@@ -1,0 +1,66 @@
+// A run of a table: the checks, then the run from the entry.
+ghost use mathlib.Core.Path.{_≡_};
+ghost use lib.ListN.{length};
+ghost use Rattle.words.specs.Answer.{Answer};
+ghost use Rattle.words.specs.Answer.Answer.{refused};
+ghost use Rattle.bench.specs.Runs.{answerOf, runAnswer, runEvents};
+use crate::Fault;
+use crate::RunAnswer;
+use crate::Verdict;
+use crate::runs;
+use graph::Check;
+
+// The largest budget.
+const MOST_STEPS: usize = 100000;
+
+fn refused(number: u32, place: usize) -> RunAnswer
+    ensures { λ r. ⌜ r ≡ answerOf (refused number place) ⌝ }
+{
+    RunAnswer {
+        verdict: Verdict::Refused(number, place),
+        state: runs::start(0),
+        events: 0,
+    }
+}
+
+// A run from the entry: how it ended, its last state and its number of events, which lie in the buffer's first words.
+pub fn run(
+    registers: usize,
+    nodes: usize,
+    entry: usize,
+    table: &[u32],
+    inputs: &[u32],
+    events: &mut [u32],
+    budget: usize,
+    fault: Fault,
+) -> RunAnswer
+    ensures { λ r. ⌜ r ≡ answerOf (runAnswer registers nodes entry (now (table .entry)) (now (inputs .entry)) (length (now (events .entry))) budget fault) ⌝ }
+    ensures { λ _. ⌜ now (events .exit) ≡ runEvents registers nodes entry (now (table .entry)) (now (inputs .entry)) (now (events .entry)) budget fault ⌝ }
+{
+    match graph::check_runnable(registers, nodes, entry, table) {
+        Check::Accepted => {
+            if MOST_STEPS < budget {
+                return refused(12, 0);
+            }
+            let room = events.len();
+            let ended = runs::proceed(
+                table,
+                inputs,
+                events,
+                room,
+                budget,
+                fault,
+                runs::start(entry),
+                0,
+            );
+            let outcome = ended.outcome;
+            let state = ended.state;
+            RunAnswer {
+                verdict: Verdict::Ran(outcome),
+                state,
+                events: ended.words / 2,
+            }
+        }
+        Check::Refused(number, place) => refused(number, place),
+    }
+}
