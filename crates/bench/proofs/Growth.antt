@@ -28,7 +28,7 @@ grown-on {m} {n} {o} g h =
     record {
       branches = omega arith;
       more = g .more ++ h .more;
-      events = h .events ∙ ap (λ (l : List ℕ). l ++ h .more) (g .events) ∙ append-assoc (m .events) (g .more) (h .more)
+      events = h .events ∙ ap (λ (l : List ℕ). l ++ h .more) (g .events) ∙ append-assoc (m .events) (g .more) (h .more);
     }
 
 by-room : (room : ℕ) (m : Machine) (e : Effect) (b : Bool) → hasRoom (e .sequel) (length (m .events)) room ≡ b → Grown m (followed room (stateOf m) (m .events) e .machine)

@@ -6,11 +6,11 @@ ghost use Rattle.graph.specs.Nodes.{nodeAt};
 ghost use Rattle.harden.specs.Blocks.{crosses};
 ghost use Rattle.harden.specs.Hardened.{extra, ownRow, groupOf, crossing, sign, sourceOf, groupAt, sourceRows, groupRows, hardenedRows, hardenedCount};
 ghost use Rattle.harden.specs.Passes.{leads, putRows, firstTo, Led, Signed};
-use graph::Header;
-use graph::Successors;
 use super::groups;
 use super::leaders;
 use super::writing;
+use graph::Header;
+use graph::Successors;
 
 // How many extra nodes a source node has.
 fn extra(table: &[u32], grades: &[u32], n: usize) -> usize
@@ -29,7 +29,11 @@ fn first_to(table: &[u32], grades: &[u32], n: usize, e: usize) -> usize
 {
     match graph::targets(table, n) {
         Successors::None => 0,
-        Successors::One(next) => if leaders::leads(grades, next) { e } else { next },
+        Successors::One(next) => if leaders::leads(grades, next) {
+            e
+        } else {
+            next
+        },
         Successors::Two(_, _) => e,
     }
 }

@@ -18,31 +18,11 @@ use Rattle.bench.specs.declared.Fault.the-variants.{Undisturbed, Inverted}
 use Rattle.bench.specs.declared.Outcome.{Outcome}
 use Rattle.bench.specs.declared.Outcome.the-variants.{Returned, Caught, Spent, Full}
 use Rattle.swift.specs.Demand.{Trial, hardened, hardenedGraph, sourceRun, hardenedRun, hardenedSteps, stopping, beside, Executes, CaughtBy, Answered, AnsweredWithin}
-use Rattle.swift.proofs.Rounds.{after-add, after-ended, before-place, next-grown, after-grown, steps-going, branch-counted}
+use Rattle.bench.proofs.Rounds.{after-add, ended-stays}
+use Rattle.swift.proofs.Rounds.{next-stepped, steps-after, steps-going, branch-counted}
 use Rattle.swift.proofs.Roles.{Accepted}
 use Rattle.swift.proofs.Following.{follows}
 use Rattle.swift.proofs.Inverting.{answered}
-
--- a place that is never reached changes nothing about a run
-pub never-reached : (s : Setting) (entry budget place : ℕ) → runOf s Undisturbed entry budget .machine .branches ≤ place
-    → runOf s (Inverted place) entry budget ≡ runOf s Undisturbed entry budget
-unfolding runOf
-never-reached s entry budget place h = before-place s place (at (start entry) going) budget h
-
--- a run that has ended is the same with any larger budget
-pub stays : (s : Setting) (fault : Fault) (entry rounds budget : ℕ) (o : Outcome) → runOf s fault entry rounds .status ≡ ended o → rounds ≤ budget
-    → runOf s fault entry budget ≡ runOf s fault entry rounds
-unfolding runOf
-stays s fault entry rounds budget o e h =
-    let begin = at (start entry) going in
-    let p = after s fault begin rounds in
-    let rest : budget ≡ rounds + (budget - rounds) = omega arith in
-    let same : p ≡ at (p .machine) (ended o) = ap (at (p .machine)) e in
-    ap (after s fault begin) rest
-    ∙ after-add s fault begin rounds (budget - rounds)
-    ∙ ap (λ q. after s fault q (budget - rounds)) same
-    ∙ after-ended s fault (p .machine) o (budget - rounds)
-    ∙ sym same
 
 stopping-one : (status : Status) → stopping status ≤ 1
 stopping-one going = omega arith
@@ -52,10 +32,14 @@ stopping-one (ended Spent) = omega arith
 stopping-one (ended Full) = omega arith
 
 module _ (t : Trial) where
+  -- a run that has ended is the same with any larger budget
   pub hardened-stays : (fault : Fault) (rounds budget : ℕ) (o : Outcome) → hardenedRun t fault rounds .status ≡ ended o → rounds ≤ budget
       → hardenedRun t fault budget ≡ hardenedRun t fault rounds
-  unfolding hardenedRun
-  hardened-stays fault rounds budget o e h = stays (hardened t) fault (t .source .nodes) rounds budget o e h
+  unfolding hardenedRun runOf
+  hardened-stays fault rounds budget o e h =
+      let p = hardenedRun t fault rounds in
+      let here : p ≡ at (p .machine) (ended o) = ap (at (p .machine)) e in
+      ended-stays (hardened t) fault (at (start (t .source .nodes)) going) (p .machine) o rounds budget h here ∙ sym here
 
   -- ---- the round of a place
 
@@ -100,7 +84,7 @@ module _ (t : Trial) where
       by (yes l) ih = let (rounds, r<, x) = ih l in (rounds, omega arith, x)
       by (no d) ih =
           let p = hardenedRun t Undisturbed budget in
-          let one = next-grown (hardened t) Undisturbed p .branches-one in
+          let one = next-stepped (hardened t) Undisturbed p .branches-one in
           let (on, branching) = counts-branch p (omega arith) in
           (budget, omega arith, record { under-way = on; at-branch = branching; this-place = omega arith })
 
@@ -142,9 +126,9 @@ module _ (t : Trial) (ok : Accepted (t .source)) where
       let p = after (hardened t) Undisturbed begin rounds in
       let same : p ≡ at (p .machine) going = ap (at (p .machine)) (x .under-way) in
       let so-far : p .machine .steps ≡ 0 + rounds = steps-going (hardened t) Undisturbed (start (t .source .nodes)) rounds (x .under-way) in
-      let one : next (hardened t) Undisturbed p .machine .steps ≡ p .machine .steps + 1 = rw same (branch-counted (hardened t) 0 (p .machine) (x .at-branch) .1) in
+      let one : next (hardened t) Undisturbed p .machine .steps ≡ p .machine .steps + 1 = rw same (branch-counted (hardened t) (p .machine) (x .at-branch)) in
       let rest : budget ≡ suc rounds + (budget - suc rounds) = omega arith in
-      let up = after-grown (hardened t) Undisturbed (after (hardened t) Undisturbed begin (suc rounds)) (budget - suc rounds) .0 in
+      let up = steps-after (hardened t) Undisturbed (after (hardened t) Undisturbed begin (suc rounds)) (budget - suc rounds) in
       let end : after (hardened t) Undisturbed begin budget ≡ after (hardened t) Undisturbed (after (hardened t) Undisturbed begin (suc rounds)) (budget - suc rounds) =
       ap (after (hardened t) Undisturbed begin) rest ∙ after-add (hardened t) Undisturbed begin (suc rounds) (budget - suc rounds) in
       rw end (omega arith)

@@ -19,10 +19,12 @@ use Rattle.bench.specs.Runs.{next, after, runOf}
 use Rattle.bench.specs.declared.Fault.the-variants.{Undisturbed, Inverted}
 use Rattle.bench.specs.declared.Outcome.the-variants.{Caught}
 use Rattle.harden.proofs.Rows.{own}
+use Rattle.bench.proofs.Rounds.{after-add, after-front, ended-stays}
+use Rattle.bench.proofs.Faults.{unreached-after}
 use Rattle.swift.specs.Demand.{Trial, hardened, hardenedGraph, hardenedRun, Executes, soon, CaughtSoon, Unchanged, TestOf, first, again, OneTarget, Answered}
 use Rattle.swift.proofs.Rows.{own-row, first-row, catch-row, extraOf, group-order, group-above}
 use Rattle.swift.proofs.Blocks.{sign-apart, targets-lead}
-use Rattle.swift.proofs.Rounds.{after-add, after-first, after-ended, step-at, before-place, past-place, inverted-step}
+use Rattle.swift.proofs.Rounds.{step-at, past-place, inverted-step}
 use Rattle.swift.proofs.Roles.{Accepted, gsr, rts, signOf, checkFor, AtSource, Checking, Doubling, BranchAt, side, HardenedStep}
 use Rattle.swift.proofs.Stepping.{branch-in, branch-row, prepare-row, update-row, check-row, doubled-row, way-along, test-along, set-along, both-along, set-same, gsr-kept, fork, way-from, check-goes, update-goes, prepare-goes, double-goes}
 use Rattle.swift.proofs.Standing.{Standing, starting, at-source, tested, doubling, preparing, updating, checking, standing}
@@ -39,7 +41,7 @@ module _ (t : Trial) (ok : Accepted (t .source)) where
   from m rounds = after (hardened t) Undisturbed (at m going) rounds
 
   after-step : (m n : Machine) (rounds : ℕ) → HardenedStep t m (at n going) → from m (suc rounds) ≡ from n rounds
-  after-step m n rounds e = after-first (hardened t) Undisturbed (at m going) (at n going) rounds e
+  after-step m n rounds e = after-front (hardened t) Undisturbed (at m going) rounds ∙ ap (λ p. after (hardened t) Undisturbed p rounds) e
 
   -- ---- to the catch, or past the check
 
@@ -78,7 +80,7 @@ module _ (t : Trial) (ok : Accepted (t .source)) where
     inverted-run more =
         let begin = at (start (s .nodes)) going in
         let reached : hardenedRun t Undisturbed rounds .machine .branches ≡ place = ap (λ p. p .machine .branches) here ∙ at-place in
-        let before : after (hardened t) (Inverted place) begin rounds ≡ at m going = before-place (hardened t) place begin rounds (omega arith) ∙ here in
+        let before : after (hardened t) (Inverted place) begin rounds ≡ at m going = unreached-after (hardened t) place begin rounds (omega arith) ∙ here in
         let step : after (hardened t) (Inverted place) begin (rounds + 1) ≡ at m′ going =
         ap (after (hardened t) (Inverted place) begin) (add-one rounds) ∙ ap (next (hardened t) (Inverted place)) before ∙ wrong in
         after-add (hardened t) (Inverted place) begin (rounds + 1) more
@@ -89,13 +91,7 @@ module _ (t : Trial) (ok : Accepted (t .source)) where
     caught-soon : (few : ℕ) (m″ : Machine) → few ≤ soon → from m′ few ≡ at m″ (ended Caught) → m″ .reads ≡ m .reads → m″ .events ≡ m .events
         → CaughtSoon t place rounds
     caught-soon few m″ h e reads events =
-        let split : soon ≡ few + (soon - few) = omega arith in
-        let run : hardenedRun t (Inverted place) (rounds + 1 + soon) ≡ at m″ (ended Caught) =
-        inverted-run soon
-        ∙ ap (from m′) split
-        ∙ after-add (hardened t) Undisturbed (at m′ going) few (soon - few)
-        ∙ ap (λ p. after (hardened t) Undisturbed p (soon - few)) e
-        ∙ after-ended (hardened t) Undisturbed m″ Caught (soon - few) in
+        let run : hardenedRun t (Inverted place) (rounds + 1 + soon) ≡ at m″ (ended Caught) = inverted-run soon ∙ ended-stays (hardened t) Undisturbed (at m′ going) m″ Caught few soon h e in
         record { is-caught = rw run; no-read = rw (run, here) reads; no-event = rw (run, here) events }
 
     unchanged : (m° : Machine) → next (hardened t) Undisturbed (at m going) ≡ at m° going → from m′ 2 ≡ from m° 2 → Unchanged t place rounds

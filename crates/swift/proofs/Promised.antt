@@ -16,12 +16,13 @@ use Rattle.graph.proofs.Facts.{source-facts, path-short, source-runnable}
 use Rattle.harden.specs.Blocks.{Plan, onePlusRank}
 use Rattle.harden.specs.Hardened.{Source, hardenedCount, hardenedTable, sourceOf, hardenAnswer, hardenOutput}
 use Rattle.bench.specs.Steps.{ended}
-use Rattle.bench.specs.Runs.{settled, mostSteps, runAnswer}
+use Rattle.bench.specs.Runs.{settled, runOf, mostSteps, runAnswer}
 use Rattle.bench.specs.Campaigns.{classAt, scoreBelow, scoreOf, campaignAnswer, harmless, caught}
 use Rattle.bench.specs.declared.Fault.{Fault}
-use Rattle.bench.specs.declared.Fault.the-variants.{Undisturbed}
+use Rattle.bench.specs.declared.Fault.the-variants.{Undisturbed, Inverted}
 use Rattle.bench.specs.declared.Outcome.{Outcome}
 use Rattle.bench.specs.declared.Score.{Score}
+use Rattle.bench.proofs.Faults.{unreached}
 use Rattle.swift.specs.Demand.{Distinct, Trial, hardened, hardenedGraph, sourceRun, hardenedRun, hardenedSteps, beside, Follows, Executes, Answered, AnsweredWithin, Returns, TestAt, Covered}
 use Rattle.swift.proofs.Roles.{Accepted}
 use Rattle.swift.proofs.Following.{follows}
@@ -29,6 +30,14 @@ use Rattle.swift.proofs.Inverting.{answered}
 use Rattle.swift.proofs.Budgets.{ends-beside, answered-within}
 use Rattle.swift.proofs.Scores.{classes, covered}
 use Rattle.swift.proofs.Runnable.{hardened-runnable}
+
+-- a place that the undisturbed run never reaches changes nothing about what `run` answers, of any graph
+pub never-reached : (registers nodes entry : ℕ) (table inputs : List ℕ) (room budget place : ℕ)
+    → runOf (record { graph = nodeAt table; inputs = inputs; room = room }) Undisturbed entry budget .machine .branches ≤ place
+    → runAnswer registers nodes entry table inputs room budget (Inverted place) ≡ runAnswer registers nodes entry table inputs room budget Undisturbed
+unfolding runAnswer
+never-reached registers nodes entry table inputs room budget place h =
+    rw (unreached (record { graph = nodeAt table; inputs = inputs; room = room }) place entry budget h)
 
 -- a table that is accepted, with any plan of distinct signatures
 pub accepted-source : (plan : Plan) → Distinct plan → (registers nodes entry : ℕ) (table : List ℕ)

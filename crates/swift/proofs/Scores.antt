@@ -15,7 +15,8 @@ use Rattle.bench.specs.Campaigns.{prefixOf, same, Class, caught, harmless, clas
 use Rattle.bench.specs.declared.Fault.the-variants.{Undisturbed, Inverted}
 use Rattle.bench.specs.declared.Score.{Score}
 use Rattle.swift.specs.Demand.{Trial, hardened, hardenedRun, Executes, soon, CaughtBy, Unchanged, Answered, Returns, TestAt, Covered}
-use Rattle.swift.proofs.Rounds.{after-add, after-grown}
+use Rattle.bench.proofs.Rounds.{after-add}
+use Rattle.bench.proofs.Growth.{grown-after}
 use Rattle.swift.proofs.Roles.{Accepted}
 use Rattle.swift.proofs.Inverting.{answered}
 use Rattle.swift.proofs.Budgets.{executes, executed-before, caught-stays}
@@ -39,10 +40,10 @@ earlier-events t rounds budget h =
     let begin = at (start (t .source .nodes)) going in
     let p = after (hardened t) Undisturbed begin rounds in
     let rest : budget ≡ rounds + (budget - rounds) = omega arith in
-    let (up, more, e) = after-grown (hardened t) Undisturbed p (budget - rounds) in
+    let g = grown-after (hardened t) Undisturbed p (budget - rounds) in
     let end : after (hardened t) Undisturbed begin budget ≡ after (hardened t) Undisturbed p (budget - rounds) =
     ap (after (hardened t) Undisturbed begin) rest ∙ after-add (hardened t) Undisturbed begin rounds (budget - rounds) in
-    rw (end, e) (prefix-on (p .machine .events) more)
+    rw (end, g .events) (prefix-on (p .machine .events) (g .more))
 
 -- ---- classes
 

@@ -33,19 +33,19 @@ enum-told-2 c = search needs
 
 -- src/whole.rt:16:1
 returns : tie.Need-returns
-returns c = let a = c .before .before .before .before .before .args in extra-none (leads (now (a .grades))) (nodeAt (now (a .table)) (a .n)) (c .before .before .targets .ensures)  (c .enum-told .given .1)
+returns c = let a = c .before .before .before .before .before .args in extra-none (leads (now (a .grades))) (nodeAt (now (a .table)) (a .n)) (c .before .before .targets .ensures) (c .enum-told .given .1)
 
 -- src/whole.rt:16:1
 returns-2 : tie.Need-returns-2
-returns-2 c = let a = c .before .before .before .before .before .before .before .before .args in extra-one (leads (now (a .grades))) (nodeAt (now (a .table)) (a .n)) (c .before .before .before .before .before .targets .ensures)  true (c .before .before .before .next .given .1) (c .before .leads .ensures) (c .if1 .taken)
+returns-2 c = let a = c .before .before .before .before .before .before .before .before .args in extra-one (leads (now (a .grades))) (nodeAt (now (a .table)) (a .n)) (c .before .before .before .before .before .targets .ensures) true (c .before .before .before .next .given .1) (c .before .leads .ensures) (c .if1 .taken)
 
 -- src/whole.rt:16:1
 returns-3 : tie.Need-returns-3
-returns-3 c = let a = c .before .before .before .before .before .before .before .before .args in extra-one (leads (now (a .grades))) (nodeAt (now (a .table)) (a .n)) (c .before .before .before .before .before .targets .ensures)  false (c .before .before .before .next .given .1) (c .before .leads .ensures) (c .if1 .left)
+returns-3 c = let a = c .before .before .before .before .before .before .before .before .args in extra-one (leads (now (a .grades))) (nodeAt (now (a .table)) (a .n)) (c .before .before .before .before .before .targets .ensures) false (c .before .before .before .next .given .1) (c .before .leads .ensures) (c .if1 .left)
 
 -- src/whole.rt:16:1
 returns-4 : tie.Need-returns-4
-returns-4 c = let a = c .before .before .before .before .before .args in extra-two (leads (now (a .grades))) (nodeAt (now (a .table)) (a .n)) (c .before .before .targets .ensures)  (c .enum-told2 .given .1)
+returns-4 c = let a = c .before .before .before .before .before .args in extra-two (leads (now (a .grades))) (nodeAt (now (a .table)) (a .n)) (c .before .before .targets .ensures) (c .enum-told2 .given .1)
 
 pub extra-spec : {M : Type 1} → statement M
 extra-spec =
