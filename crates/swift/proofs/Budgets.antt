@@ -19,7 +19,7 @@ use Rattle.bench.specs.declared.Outcome.{Outcome}
 use Rattle.bench.specs.declared.Outcome.the-variants.{Returned, Caught, Spent, Full}
 use Rattle.swift.specs.Demand.{Trial, hardened, hardenedGraph, sourceRun, hardenedRun, hardenedSteps, stopping, beside, Executes, CaughtBy, Answered, AnsweredWithin}
 use Rattle.bench.proofs.Rounds.{after-add, ended-stays}
-use Rattle.swift.proofs.Rounds.{next-stepped, steps-after, steps-going, branch-counted}
+use Rattle.swift.proofs.Rounds.{next-stepped, after-stepped, steps-going, branch-counted}
 use Rattle.swift.proofs.Roles.{Accepted}
 use Rattle.swift.proofs.Following.{follows}
 use Rattle.swift.proofs.Inverting.{answered}
@@ -101,10 +101,25 @@ module _ (t : Trial) (ok : Accepted (t .source)) where
       hardened-stays t Undisturbed (hardenedSteps t rounds + stopping (sourceRun t rounds .status)) budget o alike (omega arith)
 
   -- what is caught stays caught
-  pub caught-stays : {place rounds later : ℕ} → CaughtBy t place rounds later → (budget : ℕ) → later ≤ budget → CaughtBy t place rounds budget
-  caught-stays {place} {rounds} {later} c budget h =
-      let same : hardenedRun t (Inverted place) budget ≡ hardenedRun t (Inverted place) later = hardened-stays t (Inverted place) later budget Caught (c .is-caught) h in
-      record { is-caught = rw same (c .is-caught); no-read = rw same (c .no-read); no-event = rw same (c .no-event) }
+  pub caught-stays : {place rounds later : ℕ} → CaughtBy t place rounds later → rounds ≤ later → (budget : ℕ) → later ≤ budget
+      → CaughtBy t place rounds budget
+  caught-stays {place} {rounds} {later} c low budget high =
+      record { is-caught = rw (stays budget high) (c .is-caught); quiet = record { no-read = λ k from to. both k from .0; no-event = λ k from to. both k from .1 } }
+    where
+      stays : (k : ℕ) → later ≤ k → hardenedRun t (Inverted place) k ≡ hardenedRun t (Inverted place) later
+      stays k long = hardened-stays t (Inverted place) later k Caught (c .is-caught) long
+
+      before : Machine
+      before = hardenedRun t Undisturbed rounds .machine
+
+      both : (k : ℕ) → rounds ≤ k
+          → (hardenedRun t (Inverted place) k .machine .reads ≡ before .reads) × (hardenedRun t (Inverted place) k .machine .events ≡ before .events)
+      both k from = by (decLt later k)
+        where
+          by : Dec (later < k)
+              → (hardenedRun t (Inverted place) k .machine .reads ≡ before .reads) × (hardenedRun t (Inverted place) k .machine .events ≡ before .events)
+          by (yes long) = rw (stays k (omega arith)) (c .quiet .no-read later low (omega arith), c .quiet .no-event later low (omega arith))
+          by (no short) = (c .quiet .no-read k from (omega arith), c .quiet .no-event k from (omega arith))
 
   -- each branch that a run with a budget executes has its round, and is answered from there
   pub answered-within : (place budget : ℕ) → place < hardenedRun t Undisturbed budget .machine .branches
@@ -115,7 +130,7 @@ module _ (t : Trial) (ok : Accepted (t .source)) where
     where
       by : (rounds : ℕ) → Answered t place rounds → AnsweredWithin t place rounds budget
       by rounds (inl (one, unchanged)) = inl (one, λ left. unchanged budget left)
-      by rounds (inr (two, caught)) = inr (two, λ left. caught-stays caught budget left)
+      by rounds (inr (two, caught)) = inr (two, λ left. caught-stays caught (omega arith) budget left)
 
   -- a branch executed by a run that has ended lies before its last step
   pub executed-before : (place rounds budget : ℕ) → Executes t place rounds → rounds < budget
@@ -128,7 +143,7 @@ module _ (t : Trial) (ok : Accepted (t .source)) where
       let so-far : p .machine .steps ≡ 0 + rounds = steps-going (hardened t) Undisturbed (start (t .source .nodes)) rounds (x .under-way) in
       let one : next (hardened t) Undisturbed p .machine .steps ≡ p .machine .steps + 1 = rw same (branch-counted (hardened t) (p .machine) (x .at-branch)) in
       let rest : budget ≡ suc rounds + (budget - suc rounds) = omega arith in
-      let up = steps-after (hardened t) Undisturbed (after (hardened t) Undisturbed begin (suc rounds)) (budget - suc rounds) in
+      let up = after-stepped (hardened t) Undisturbed (after (hardened t) Undisturbed begin (suc rounds)) (budget - suc rounds) .0 in
       let end : after (hardened t) Undisturbed begin budget ≡ after (hardened t) Undisturbed (after (hardened t) Undisturbed begin (suc rounds)) (budget - suc rounds) =
       ap (after (hardened t) Undisturbed begin) rest ∙ after-add (hardened t) Undisturbed begin (suc rounds) (budget - suc rounds) in
       rw end (omega arith)

@@ -5,7 +5,6 @@ use mathlib.Core.Path.{_≡_, refl, sym, ap, _∙_, subst}
 use mathlib.Core.Logic.{_⊎_, inl, inr}
 use mathlib.Core.Bool.{Bool, true, false, cond, not}
 use Prim.Native.Nat.{ℕ, suc, _+_, _-_, _≤_, _<_}
-use native.Mathlib.Numerals.{add-one}
 use native.Mathlib.Decide.{ℕ-discrete, decLt}
 use native.Mathlib.Omega.{arith}
 use lib.ListN.{length}
@@ -19,12 +18,12 @@ use Rattle.bench.specs.Runs.{next, after, runOf}
 use Rattle.bench.specs.declared.Fault.the-variants.{Undisturbed, Inverted}
 use Rattle.bench.specs.declared.Outcome.the-variants.{Caught}
 use Rattle.harden.proofs.Rows.{own}
-use Rattle.bench.proofs.Rounds.{after-add, after-front, ended-stays}
+use Rattle.bench.proofs.Rounds.{after-add, after-more, after-front, ended-stays}
 use Rattle.bench.proofs.Faults.{unreached-after}
-use Rattle.swift.specs.Demand.{Trial, hardened, hardenedGraph, hardenedRun, Executes, soon, CaughtSoon, Unchanged, TestOf, first, again, OneTarget, Answered}
+use Rattle.swift.specs.Demand.{Trial, hardened, hardenedGraph, hardenedRun, Executes, Quiet, soon, CaughtSoon, Unchanged, TestOf, first, again, OneTarget, Answered}
 use Rattle.swift.proofs.Rows.{own-row, first-row, catch-row, extraOf, group-order, group-above}
 use Rattle.swift.proofs.Blocks.{sign-apart, targets-lead}
-use Rattle.swift.proofs.Rounds.{step-at, past-place, inverted-step}
+use Rattle.swift.proofs.Rounds.{step-at, between, past-place, inverted-step}
 use Rattle.swift.proofs.Roles.{Accepted, gsr, rts, signOf, checkFor, AtSource, Checking, Doubling, BranchAt, side, HardenedStep}
 use Rattle.swift.proofs.Stepping.{branch-in, branch-row, prepare-row, update-row, check-row, doubled-row, way-along, test-along, set-along, both-along, set-same, gsr-kept, fork, way-from, check-goes, update-goes, prepare-goes, double-goes}
 use Rattle.swift.proofs.Standing.{Standing, starting, at-source, tested, doubling, preparing, updating, checking, standing}
@@ -75,33 +74,52 @@ module _ (t : Trial) (ok : Accepted (t .source)) where
 
   module _ (place rounds : ℕ) (m m′ : Machine) (here : hardenedRun t Undisturbed rounds ≡ at m going) (at-place : m .branches ≡ place)
       (wrong : next (hardened t) (Inverted place) (at m going) ≡ at m′ going) (counts : m′ .branches ≡ m .branches + 1) where
-    inverted-run : (more : ℕ) → hardenedRun t (Inverted place) (rounds + 1 + more) ≡ from m′ more
-    unfolding hardenedRun runOf after
-    inverted-run more =
-        let begin = at (start (s .nodes)) going in
+    abbrev begin : Progress
+    begin = at (start (s .nodes)) going
+
+    -- up to the branch the run is the undisturbed one, and after the inverted branch it goes on undisturbed
+    until-branch : hardenedRun t (Inverted place) rounds ≡ at m going
+    unfolding hardenedRun runOf
+    until-branch =
         let reached : hardenedRun t Undisturbed rounds .machine .branches ≡ place = ap (λ p. p .machine .branches) here ∙ at-place in
-        let before : after (hardened t) (Inverted place) begin rounds ≡ at m going = unreached-after (hardened t) place begin rounds (omega arith) ∙ here in
+        unreached-after (hardened t) place begin rounds (omega arith) ∙ here
+
+    inverted-run : (more : ℕ) → hardenedRun t (Inverted place) (rounds + 1 + more) ≡ from m′ more
+    unfolding hardenedRun runOf
+    inverted-run more =
         let step : after (hardened t) (Inverted place) begin (rounds + 1) ≡ at m′ going =
-        ap (after (hardened t) (Inverted place) begin) (add-one rounds) ∙ ap (next (hardened t) (Inverted place)) before ∙ wrong in
+        after-more (hardened t) (Inverted place) begin rounds ∙ ap (next (hardened t) (Inverted place)) until-branch ∙ wrong in
         after-add (hardened t) (Inverted place) begin (rounds + 1) more
         ∙ ap (λ p. after (hardened t) (Inverted place) p more) step
         ∙ past-place (hardened t) place (at m′ going) more (omega arith)
+
+    -- where a later round has made no read and no event, none in between has
+    quiet : (later : ℕ) → rounds ≤ later → hardenedRun t (Inverted place) later .machine .reads ≡ m .reads
+        → hardenedRun t (Inverted place) later .machine .events ≡ m .events
+        → Quiet t place rounds later
+    unfolding hardenedRun runOf
+    quiet later h reads events =
+        let on : (k : ℕ) → rounds ≤ k → hardenedRun t (Inverted place) k ≡ after (hardened t) (Inverted place) (at m going) (k - rounds) =
+        λ k low. ap (after (hardened t) (Inverted place) begin) (omega arith) ∙ after-add (hardened t) (Inverted place) begin rounds (k - rounds)
+        ∙ ap (λ p. after (hardened t) (Inverted place) p (k - rounds)) until-branch in
+        let both : (k : ℕ) → rounds ≤ k → k ≤ later → (hardenedRun t (Inverted place) k .machine .reads ≡ m .reads) × (hardenedRun t (Inverted place) k .machine .events ≡ m .events) =
+        λ k low high. rw (on k low) (between (hardened t) (Inverted place) (at m going) (k - rounds) (later - rounds) (omega arith) (rw (on later h) at reads) (rw (on later h) at events)) in
+        record { no-read = λ k low high. rw here (both k low high .0); no-event = λ k low high. rw here (both k low high .1) }
 
     -- what is caught in few enough rounds is caught soon
     caught-soon : (few : ℕ) (m″ : Machine) → few ≤ soon → from m′ few ≡ at m″ (ended Caught) → m″ .reads ≡ m .reads → m″ .events ≡ m .events
         → CaughtSoon t place rounds
     caught-soon few m″ h e reads events =
         let run : hardenedRun t (Inverted place) (rounds + 1 + soon) ≡ at m″ (ended Caught) = inverted-run soon ∙ ended-stays (hardened t) Undisturbed (at m′ going) m″ Caught few soon h e in
-        record { is-caught = rw run; no-read = rw (run, here) reads; no-event = rw (run, here) events }
+        record { is-caught = rw run; quiet = quiet (rounds + 1 + soon) (omega arith) (rw run reads) (rw run events) }
 
     unchanged : (m° : Machine) → next (hardened t) Undisturbed (at m going) ≡ at m° going → from m′ 2 ≡ from m° 2 → Unchanged t place rounds
-    unfolding hardenedRun runOf after
+    unfolding hardenedRun runOf
     unchanged m° right same later h =
-        let begin = at (start (s .nodes)) going in
         let more = later - (rounds + 1 + 2) in
         let split : later ≡ rounds + 1 + (2 + more) = omega arith in
         let step : after (hardened t) Undisturbed begin (rounds + 1) ≡ at m° going =
-        ap (after (hardened t) Undisturbed begin) (add-one rounds) ∙ ap (next (hardened t) Undisturbed) here ∙ right in
+        after-more (hardened t) Undisturbed begin rounds ∙ ap (next (hardened t) Undisturbed) here ∙ right in
         let plain-run : hardenedRun t Undisturbed (rounds + 1 + (2 + more)) ≡ from m° (2 + more) =
         after-add (hardened t) Undisturbed begin (rounds + 1) (2 + more) ∙ ap (λ p. after (hardened t) Undisturbed p (2 + more)) step in
         let meet : from m′ (2 + more) ≡ from m° (2 + more) =

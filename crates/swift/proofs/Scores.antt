@@ -70,9 +70,9 @@ module _ (t : Trial) (ok : Accepted (t .source)) (budget value : ℕ) (returns :
   caught-where place rounds h x soon-caught =
       let before = executed-before t ok place rounds budget x h in
       let spare = returns .to-spare in
-      let c = caught-stays t ok soon-caught budget (omega arith) in
+      let c = caught-stays t ok soon-caught (omega arith) budget (omega arith) in
       class-of place (hardenedRun t (Inverted place) budget) refl
-      ∙ rw (c .is-caught, c .no-event, earlier-events t rounds budget (omega arith))
+      ∙ rw (c .is-caught, c .quiet .no-event budget (omega arith) (omega arith), earlier-events t rounds budget (omega arith))
 
   pub test-harmless : (place : ℕ) → TestAt t place budget → class place ≡ harmless
   test-harmless place x = by (answered t ok place (x .rounds) (x .executed))

@@ -96,11 +96,16 @@ pub record Executes (t : Trial) (place rounds : ℕ) : Type 0 where
   pub at-branch : isBranch (hardenedGraph t (hardenedRun t Undisturbed rounds .machine .node)) ≡ true
   pub this-place : hardenedRun t Undisturbed rounds .machine .branches ≡ place
 
--- caught after so many rounds, and no read or event since the inverted branch
+-- the rounds from the branch on, up to a later one, make no read and no event
+pub record Quiet (t : Trial) (place rounds later : ℕ) : Type 0 where
+  pub no-read : (k : ℕ) → rounds ≤ k → k ≤ later → hardenedRun t (Inverted place) k .machine .reads ≡ hardenedRun t Undisturbed rounds .machine .reads
+  pub no-event : (k : ℕ) → rounds ≤ k → k ≤ later
+      → hardenedRun t (Inverted place) k .machine .events ≡ hardenedRun t Undisturbed rounds .machine .events
+
+-- caught by a later round, and no read or event in between
 pub record CaughtBy (t : Trial) (place rounds later : ℕ) : Type 0 where
   pub is-caught : hardenedRun t (Inverted place) later .status ≡ ended Caught
-  pub no-read : hardenedRun t (Inverted place) later .machine .reads ≡ hardenedRun t Undisturbed rounds .machine .reads
-  pub no-event : hardenedRun t (Inverted place) later .machine .events ≡ hardenedRun t Undisturbed rounds .machine .events
+  pub quiet : Quiet t place rounds later
 
 -- caught within five further steps
 abbrev pub soon : ℕ
