@@ -1,4 +1,4 @@
--- Demand 3 and what follows from it for the score.
+-- Demand 3, step by step, then in terms of what the functions promise, and what follows from it for the score.
 pub mod Xor
 pub mod Rows
 pub mod Blocks
