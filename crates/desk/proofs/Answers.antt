@@ -7,10 +7,11 @@ use Prim.Native.Nat.{ℕ, zero, suc, _+_, _*_, _/_, _≤_}
 use native.Mathlib.Omega.{arith}
 use lib.ListN.{length, take, drop, replicate, length-replicate}
 use lib.Dec.{leb}
+use borrow.Author.Tests.{leb-true}
 use lib.Seq.{take-at}
 use Rattle.words.specs.Answer.{Answer, given, refused, demand, andThen, written}
 use Rattle.words.specs.Buffer.{over}
-use Rattle.graph.specs.Checks.{runnableCheck}
+use Rattle.graph.specs.Checks.{runnableCheck, sourceCheck}
 use Rattle.graph.specs.Nodes.{nodeAt}
 use Rattle.graph.specs.declared.Header.{Header}
 use Rattle.bench.specs.declared.Fault.{Fault}
@@ -28,7 +29,7 @@ use Rattle.desk.specs.declared.loading.Loaded.{Loaded}
 use Rattle.file.specs.declared.Verdict.{Verdict as Verdict′}
 use Rattle.file.specs.Reading.{readOf, readAnswer, readTable}
 use Rattle.harden.specs.declared.Hardening.{Hardening}
-use Rattle.harden.specs.Hardened.{hardeningOf, hardenAnswer, hardenOutput}
+use Rattle.harden.specs.Hardened.{hardeningOf, hardenAnswer, hardenOutput, hardenedCount, sourceOf}
 
 -- a progress whose events come in pairs and fit
 pub record Sized (room : ℕ) (p : Progress) : Type 0 where
@@ -158,3 +159,53 @@ load-hardened bytes a harden is e = rw is e
 pub load-plain : (bytes : List ℕ) (a : Answer Graph) (harden : Bool) → harden ≡ false → a ≡ readGraph bytes → a ≡ graphIn harden bytes
 unfolding graphIn
 load-plain bytes a harden is e = rw is e
+
+-- a loaded graph in text
+module _ {A : Type 0} (a : Answer Graph) (after : Graph → Answer A) (text : A → List ℕ) (r : Loaded) (table : List ℕ) (e : loadedOf r table ≡ a) where
+  pub graph-text : (h : Header) → r ≡ Loaded.Graph h → textOf (after (record { header = h; table = table })) text ≡ textOf (andThen a after) text
+  graph-text h is = ap (λ (x : Answer Graph). textOf (andThen x after) text) (ap (λ (x : Loaded). loadedOf x table) (sym is) ∙ e)
+
+  pub graph-refused : (number place : ℕ) → r ≡ Loaded.Refused number place → refusalLine number place ≡ textOf (andThen a after) text
+  graph-refused number place is = ap (λ (x : Answer Graph). textOf (andThen x after) text) (ap (λ (x : Loaded). loadedOf x table) (sym is) ∙ e)
+
+-- a hardened graph has its rows in its table
+room-by : (checked : Answer Unit) (fits : Bool) (n room : ℕ) (h k : Header) → fits ≡ leb (6 * n) room → h .nodes ≡ n
+  → andThen checked (λ _. demand {A = Header} fits 11 (6 * n) (given h)) ≡ given k → 6 * k .nodes ≤ room
+room-by (given tt) true n room h k f is e =
+    let same : h ≡ k = cc in
+    let fit : 6 * n ≤ room = leb-true (6 * n) room (sym f) in
+    omega (arith, ap (λ (x : Header). x .nodes) same)
+room-by (given tt) false n room h k f is e = let z : _≡_ {A = ℕ} 0 1 = cc in absurd (omega arith)
+room-by (refused number place) fits n room h k f is e = let z : _≡_ {A = ℕ} 0 1 = cc in absurd (omega arith)
+
+harden-room : (registers nodes entry : ℕ) (table : List ℕ) (room : ℕ) (k : Header) → hardenAnswer registers nodes entry table room ≡ given k → 6 * k .nodes ≤ room
+unfolding hardenAnswer
+harden-room registers nodes entry table room k e =
+    room-by (sourceCheck registers nodes entry table) (leb (6 * hardenedCount (sourceOf registers nodes entry table)) room)
+    (hardenedCount (sourceOf registers nodes entry table)) room
+    (record { registers = registers + 2; nodes = hardenedCount (sourceOf registers nodes entry table); entry = nodes }) k refl refl e
+
+hardened-room : (g k : Graph) → hardenGraph g ≡ given k → 6 * k .header .nodes ≤ tableWords
+unfolding hardenGraph
+hardened-room g k e =
+    let h = g .header in
+    by (hardenAnswer (h .registers) (h .nodes) (h .entry) (g .table) tableWords) (harden-room (h .registers) (h .nodes) (h .entry) (g .table) tableWords) e
+  where
+    by : (a : Answer Header) → ((x : Header) → a ≡ given x → 6 * x .nodes ≤ tableWords)
+      → andThen a (λ x. given {A = Graph} (record { header = x; table = hardenOutput (g .header .registers) (g .header .nodes) (g .header .entry) (g .table) (replicate tableWords 0) })) ≡ given k
+      → 6 * k .header .nodes ≤ tableWords
+    by (given x) fits e = let same : x ≡ k .header = ap (headed x) e in rw same at (fits x refl)
+    by (refused number place) fits e = let z : _≡_ {A = ℕ} 0 1 = cc in absurd (omega arith)
+    headed : Header → Answer Graph → Header
+    headed d (given x) = x .header
+    headed d (refused number place) = d
+
+-- the rows of a graph that was read and hardened lie in its table
+pub graph-room : (bytes : List ℕ) (r : Loaded) (h : Header) (table : List ℕ) → loadedOf r table ≡ graphIn true bytes → r ≡ Loaded.Graph h → 6 * h .nodes ≤ tableWords
+unfolding graphIn
+graph-room bytes r h table e is =
+    by (readGraph bytes) (sym e ∙ ap (λ (x : Loaded). loadedOf x table) is)
+  where
+    by : (a : Answer Graph) → andThen a hardenGraph ≡ loadedOf (Loaded.Graph h) table → 6 * h .nodes ≤ tableWords
+    by (given g) e = hardened-room g (record { header = h; table = table }) e
+    by (refused number place) e = let z : _≡_ {A = ℕ} 0 1 = cc in absurd (omega arith)

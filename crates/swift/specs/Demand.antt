@@ -1,0 +1,171 @@
+-- Demand 3: for every accepted source and input, the undisturbed hardened run stands after 1 + s + 4b + 3x steps as the
+-- source after s; and one inverted branch is caught within five further steps, or, at a doubled test whose two targets are
+-- one node, has changed nothing two steps later. Here is what each of these words means; proofs/ has the theorems.
+-- Assumes nothing.
+use Prim.Native.Nat.{ℕ, zero, suc, _+_, _*_, _≤_, _<_}
+use mathlib.Core.Path.{_≡_}
+use mathlib.Core.Logic.{_⊎_}
+use mathlib.Core.Bool.{true, cond, _&&_}
+use mathlib.Core.List.{List, _++_}
+use lib.ListN.{take}
+use lib.Dec.{ltb}
+use Rattle.graph.specs.Nodes.{Node, branch, Operand, nodeAt}
+use Rattle.harden.specs.Blocks.{Plan}
+use Rattle.harden.specs.Hardened.{Source, isBranch, crossing, groupAt, hardenedTable}
+use Rattle.bench.specs.Steps.{Machine, Setting, Status, going, ended, Progress}
+use Rattle.bench.specs.Runs.{runOf}
+use Rattle.bench.specs.declared.Fault.{Fault}
+use Rattle.bench.specs.declared.Fault.the-variants.{Undisturbed, Inverted}
+use Rattle.bench.specs.declared.Outcome.the-variants.{Returned, Caught, Spent, Full}
+use Rattle.bench.specs.declared.Score.{Score}
+
+-- a plan that gives no two ranks one signature
+abbrev pub Distinct : Plan → Type 0
+Distinct plan = (a b : ℕ) → a < 256 → b < 256 → plan a ≡ plan b → a ≡ b
+
+-- a source, whatever words stand behind its hardened table, the input words, and the event room
+pub record Trial : Type 0 where
+  pub source : Source
+  pub behind : List ℕ
+  pub inputs : List ℕ
+  pub room : ℕ
+
+-- the source, and its hardened table, to be run
+abbrev pub plain : Trial → Setting
+plain t = record { graph = t .source .graph; inputs = t .inputs; room = t .room }
+
+unfoldable pub hardenedGraph : Trial → ℕ → Node
+hardenedGraph t n = nodeAt (hardenedTable (t .source) ++ t .behind) n
+
+abbrev pub hardened : Trial → Setting
+hardened t = record { graph = hardenedGraph t; inputs = t .inputs; room = t .room }
+
+-- the runs after so many rounds: a round is a step, until the run has ended
+unfoldable pub sourceRun : Trial → ℕ → Progress
+sourceRun t rounds = runOf (plain t) Undisturbed (t .source .entry) rounds
+
+unfoldable pub hardenedRun : Trial → Fault → ℕ → Progress
+hardenedRun t fault rounds = runOf (hardened t) fault (t .source .nodes) rounds
+
+-- the crossing jumps among the source's first rounds: steps from a node whose edge crosses
+unfoldable pub crossings : Trial → ℕ → ℕ
+crossings t zero = 0
+crossings t (suc rounds) =
+    let now = sourceRun t rounds .machine in
+    let then = sourceRun t (suc rounds) .machine in
+    crossings t rounds + cond (crossing (t .source) (now .node) && ltb (now .steps) (then .steps)) 1 0
+
+-- after s source steps with b branches and x crossing jumps
+abbrev pub when : ℕ → ℕ → ℕ → ℕ
+when s b x = 1 + s + 4 * b + 3 * x
+
+-- the steps of the hardened run that answer to the source's first rounds
+unfoldable pub hardenedSteps : Trial → ℕ → ℕ
+hardenedSteps t rounds =
+    let m = sourceRun t rounds .machine in
+    when (m .steps) (m .branches) (crossings t rounds)
+
+-- what stops a run before a step is seen in one round more, which is no step
+abbrev pub stopping : Status → ℕ
+stopping going = 0
+stopping (ended (Returned value)) = 0
+stopping (ended Caught) = 0
+stopping (ended Spent) = 0
+stopping (ended Full) = 1
+
+-- the undisturbed hardened run beside the source's first rounds
+unfoldable pub beside : Trial → ℕ → Progress
+beside t rounds = hardenedRun t Undisturbed (hardenedSteps t rounds + stopping (sourceRun t rounds .status))
+
+-- the same node, source registers, reads and events
+pub record Agree (registers : ℕ) (m σ : Machine) : Type 0 where
+  pub same-node : m .node ≡ σ .node
+  pub same-registers : take registers (m .registers) ≡ take registers (σ .registers)
+  pub same-reads : m .reads ≡ σ .reads
+  pub same-events : m .events ≡ σ .events
+
+-- the first half of demand 3: so many steps, the same state, and ended alike if the source has, else not at all
+pub record Follows (t : Trial) (rounds : ℕ) : Type 0 where
+  pub steps : beside t rounds .machine .steps ≡ hardenedSteps t rounds
+  pub agree : Agree (t .source .registers) (beside t rounds .machine) (sourceRun t rounds .machine)
+  pub alike : beside t rounds .status ≡ sourceRun t rounds .status
+
+-- after these rounds the undisturbed hardened run executes a branch, whose place among the branches executed is this
+pub record Executes (t : Trial) (place rounds : ℕ) : Type 0 where
+  pub under-way : hardenedRun t Undisturbed rounds .status ≡ going
+  pub at-branch : isBranch (hardenedGraph t (hardenedRun t Undisturbed rounds .machine .node)) ≡ true
+  pub this-place : hardenedRun t Undisturbed rounds .machine .branches ≡ place
+
+-- the rounds from the branch on, up to a later one, make no read and no event
+pub record Quiet (t : Trial) (place rounds later : ℕ) : Type 0 where
+  pub no-read : (k : ℕ) → rounds ≤ k → k ≤ later → hardenedRun t (Inverted place) k .machine .reads ≡ hardenedRun t Undisturbed rounds .machine .reads
+  pub no-event : (k : ℕ) → rounds ≤ k → k ≤ later
+      → hardenedRun t (Inverted place) k .machine .events ≡ hardenedRun t Undisturbed rounds .machine .events
+
+-- caught by a later round, and no read or event in between
+pub record CaughtBy (t : Trial) (place rounds later : ℕ) : Type 0 where
+  pub is-caught : hardenedRun t (Inverted place) later .status ≡ ended Caught
+  pub quiet : Quiet t place rounds later
+
+-- caught within five further steps
+abbrev pub soon : ℕ
+soon = 5
+
+abbrev pub CaughtSoon : Trial → ℕ → ℕ → Type 0
+CaughtSoon t place rounds = CaughtBy t place rounds (rounds + 1 + soon)
+
+-- two steps after the inverted one, and ever after, exactly the undisturbed run
+abbrev pub Unchanged : Trial → ℕ → ℕ → Type 0
+Unchanged t place rounds = (later : ℕ) → rounds + 1 + 2 ≤ later → hardenedRun t (Inverted place) later ≡ hardenedRun t Undisturbed later
+
+-- the two nodes of the hardened graph that make a source branch's test
+pub data TestOf (s : Source) (n : ℕ) : ℕ → Type 0 where
+  first : TestOf s n n
+  again : TestOf s n (groupAt s n + 2)
+
+-- a node of the hardened graph that makes a doubled test whose two targets are one node
+pub record OneTarget (s : Source) (i : ℕ) : Type 0 where
+  pub node : ℕ
+  pub inside : node < s .nodes
+  pub test : TestOf s node i
+  pub comparison : ℕ
+  pub left : ℕ
+  pub right : Operand
+  pub then : ℕ
+  pub else : ℕ
+  pub is-branch : s .graph node ≡ branch comparison left right then else
+  pub one-node : then ≡ else
+
+-- the second half of demand 3, for the branch that the undisturbed hardened run executes in the round after these
+abbrev pub Answered : Trial → ℕ → ℕ → Type 0
+Answered t place rounds =
+    let test = OneTarget (t .source) (hardenedRun t Undisturbed rounds .machine .node) in
+    (test × Unchanged t place rounds) ⊎ ((test → ⊥) × CaughtSoon t place rounds)
+
+-- the same within a budget: with two steps left after the inverted branch the run is the undisturbed one, or with five left it
+-- ends caught
+abbrev pub AnsweredWithin : Trial → ℕ → ℕ → ℕ → Type 0
+AnsweredWithin t place rounds budget =
+    let test = OneTarget (t .source) (hardenedRun t Undisturbed rounds .machine .node) in
+    (test × (rounds + 1 + 2 ≤ budget → hardenedRun t (Inverted place) budget ≡ hardenedRun t Undisturbed budget))
+    ⊎ ((test → ⊥) × (rounds + 1 + soon ≤ budget → CaughtBy t place rounds budget))
+
+-- the undisturbed hardened run returns this value within its budget, with five steps to spare
+pub record Returns (t : Trial) (budget value : ℕ) : Type 0 where
+  pub returned : hardenedRun t Undisturbed budget .status ≡ ended (Returned value)
+  pub to-spare : hardenedRun t Undisturbed budget .machine .steps + soon ≤ budget
+
+-- the branch at this place is a doubled test whose two targets are one node
+pub record TestAt (t : Trial) (place budget : ℕ) : Type 0 where
+  pub rounds : ℕ
+  pub within : rounds < budget
+  pub executed : Executes t place rounds
+  pub one-target : OneTarget (t .source) (hardenedRun t Undisturbed rounds .machine .node)
+
+-- a score in which each position is caught or harmless
+pub record Covered (positions : ℕ) (score : Score) : Type 0 where
+  pub all-tried : score .positions ≡ positions
+  pub caught-or-harmless : score .caught + score .harmless ≡ score .positions
+  pub none-late : score .late ≡ 0
+  pub none-changed : score .changed ≡ 0
+  pub none-unended : score .unended ≡ 0
