@@ -185,8 +185,12 @@ harden-room registers nodes entry table room k e =
     (hardenedCount (sourceOf registers nodes entry table)) room
     (record { registers = registers + 2; nodes = hardenedCount (sourceOf registers nodes entry table); entry = nodes }) k refl refl e
 
+headed : Header → Answer Graph → Header
+headed d (given x) = x .header
+headed d (refused number place) = d
+
 hardened-room : (g k : Graph) → hardenGraph g ≡ given k → 6 * k .header .nodes ≤ tableWords
-unfolding hardenGraph
+unfolding hardenGraph headed
 hardened-room g k e =
     let h = g .header in
     by (hardenAnswer (h .registers) (h .nodes) (h .entry) (g .table) tableWords) (harden-room (h .registers) (h .nodes) (h .entry) (g .table) tableWords) e
@@ -196,9 +200,6 @@ hardened-room g k e =
       → 6 * k .header .nodes ≤ tableWords
     by (given x) fits e = let same : x ≡ k .header = ap (headed x) e in rw same at (fits x refl)
     by (refused number place) fits e = let z : _≡_ {A = ℕ} 0 1 = cc in absurd (omega arith)
-    headed : Header → Answer Graph → Header
-    headed d (given x) = x .header
-    headed d (refused number place) = d
 
 -- the rows of a graph that was read and hardened lie in its table
 pub graph-room : (bytes : List ℕ) (r : Loaded) (h : Header) (table : List ℕ) → loadedOf r table ≡ graphIn true bytes → r ≡ Loaded.Graph h → 6 * h .nodes ≤ tableWords

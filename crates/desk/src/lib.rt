@@ -7,7 +7,7 @@ mod loading;
 mod programs;
 
 ghost use Rattle.text.specs.Places.{Wrote};
-ghost use Rattle.desk.specs.Programs.{listText, runProgram, Shown};
+ghost use Rattle.desk.specs.Programs.{listText, runProgram, scoreProgram, Shown};
 use bench::Fault;
 use loading::Loaded;
 
@@ -70,7 +70,19 @@ pub fn run(cells: &[u8], bytes: &[u8], text: &mut [u8]) -> Printed
 {
     match arguments::settings(cells) {
         Settings::Ready(hardened, budget, room) => {
-            Printed::Output(0)
+            programs::run_with(cells, bytes, hardened, budget, room, text)
+        }
+        Settings::Wrong(wanted) => Printed::Complaint(lines::complaint(text, wanted)),
+    }
+}
+
+// What `hscore` prints for its arguments, in cells, and the bytes of a graph file.
+pub fn score(cells: &[u8], bytes: &[u8], text: &mut [u8]) -> Printed
+    ensures { λ r. ⌜ Shown (now (text .entry)) (scoreProgram (now (cells .entry)) (now (bytes .entry))) (now (text .exit)) r ⌝ }
+{
+    match arguments::settings(cells) {
+        Settings::Ready(hardened, budget, room) => {
+            programs::score_words(cells, bytes, hardened, budget, room, text)
         }
         Settings::Wrong(wanted) => Printed::Complaint(lines::complaint(text, wanted)),
     }

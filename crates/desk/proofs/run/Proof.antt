@@ -5,6 +5,7 @@ use Rattle.desk.proofs.run.Reads as reads
 use Rattle.desk.proofs.run.Lts as lts
 use Rattle.desk.proofs.arguments.settings.Reads as settings-reads
 use Rattle.desk.proofs.lines.complaint.Reads as complaint-reads
+use Rattle.desk.proofs.programs.run_with.Reads as run-with-reads
 
 -- src/lib.rt:71:11
 settings-requires : tie.Need-settings-requires
@@ -13,6 +14,10 @@ settings-requires c κs = search needs
 -- src/lib.rt:72:25
 enum-known-hardened : tie.Need-enum-known-hardened
 enum-known-hardened c = search needs
+
+-- src/lib.rt:73:13
+run-with-requires : tie.Need-run-with-requires
+run-with-requires c κs = ?
 
 -- src/lib.rt:75:25
 enum-known-wanted : tie.Need-enum-known-wanted
@@ -23,12 +28,16 @@ complaint-requires : tie.Need-complaint-requires
 complaint-requires c κs = search needs
 
 -- src/lib.rt:68:1
+same-length : tie.Need-same-length
+same-length c = search needs
+
+-- src/lib.rt:68:1
 returns : tie.Need-returns
 returns c = ?
 
 -- src/lib.rt:68:1
-same-length : tie.Need-same-length
-same-length c = search needs
+same-length-2 : tie.Need-same-length-2
+same-length-2 c = search needs
 
 -- src/lib.rt:68:1
 returns-2 : tie.Need-returns-2
@@ -40,8 +49,10 @@ run-spec =
     (tie.spec
     settings-requires
     enum-known-hardened
+    run-with-requires
     enum-known-wanted
     complaint-requires
-    returns
     same-length
+    returns
+    same-length-2
     returns-2)
