@@ -13,3 +13,4 @@ pub mod Budgets
 pub mod Scores
 pub mod Runnable
 pub mod Promised
+pub mod Unique

@@ -1,0 +1,141 @@
+-- Document 01, "What the contracts must shut out": each promise of specs/Promises.antt is met by one answer only, and by one content
+-- of each buffer. Where an answer is an enum, its meaning can be taken back, so two answers of one meaning are one.
+-- Assumes nothing.
+use Prim.Native.Nat.{ℕ}
+use mathlib.Core.Path.{_≡_, refl, sym, ap, _∙_}
+use mathlib.Core.List.{List, [], _∷_}
+use Rattle.words.specs.Answer.{Answer, given, refused}
+use Rattle.words.specs.Number.{readingOf}
+use Rattle.words.specs.declared.Number.{Number}
+use Rattle.graph.specs.Successors.{targetsOf}
+use Rattle.graph.specs.Checks.{checkOf}
+use Rattle.graph.specs.declared.Check.{Check}
+use Rattle.graph.specs.declared.Role.{Role}
+use Rattle.graph.specs.declared.Successors.{Successors}
+use Rattle.file.specs.Reading.{readOf}
+use Rattle.file.specs.declared.Verdict.{Verdict}
+use Rattle.harden.specs.Hardened.{hardeningOf}
+use Rattle.harden.specs.declared.Hardening.{Hardening}
+use Rattle.bench.specs.Campaigns.{campaignOf}
+use Rattle.bench.specs.declared.Fault.{Fault}
+use Rattle.bench.specs.declared.CampaignAnswer.{CampaignAnswer}
+use Rattle.swift.specs.Promises.{OneAnswer, OneBuffer, TwoBuffers, Word, NumberAt, Runnable, Source, RoleAt, FaultOf, Targets, CheckRunnable, CheckSource, Read, Harden, Run, Campaign}
+
+-- ---- two answers of one meaning are one
+
+-- two that equal a third are one
+same : {A : Type 0} {y r s : A} → r ≡ y → s ≡ y → r ≡ s
+same p q = p ∙ sym q
+
+abbrev pub Injective : {A B : Type 0} → (A → B) → Type 0
+Injective {A} f = (r s : A) → f r ≡ f s → r ≡ s
+
+-- a meaning that can be taken back
+taken-back : {A B : Type 0} (f : A → B) (back : B → A) → ((a : A) → back (f a) ≡ a) → Injective f
+taken-back f back undone r s e = sym (undone r) ∙ ap back e ∙ undone s
+
+-- the case of an enum for a value, or for a refusal
+abbrev caseOf : {A B : Type 0} → (A → B) → (ℕ → ℕ → B) → Answer A → B
+caseOf value refusal (given a) = value a
+caseOf value refusal (refused number place) = refusal number place
+
+pub readingOf-injective : Injective readingOf
+readingOf-injective = taken-back readingOf (caseOf (λ r. Number.Value (r .value) (r .next)) Number.Refused) undone
+  where
+    undone : (r : Number) → caseOf (λ r. Number.Value (r .value) (r .next)) Number.Refused (readingOf r) ≡ r
+    undone (Number.Value v n) = refl
+    undone (Number.Refused number place) = refl
+
+pub checkOf-injective : Injective checkOf
+checkOf-injective = taken-back checkOf (caseOf (λ _. Check.Accepted) Check.Refused) undone
+  where
+    undone : (r : Check) → caseOf (λ _. Check.Accepted) Check.Refused (checkOf r) ≡ r
+    undone Check.Accepted = refl
+    undone (Check.Refused number place) = refl
+
+pub targetsOf-injective : Injective targetsOf
+targetsOf-injective = taken-back targetsOf back undone
+  where
+    back : List ℕ → Successors
+    back [] = Successors.None
+    back (next ∷ []) = Successors.One next
+    back (then ∷ else ∷ more) = Successors.Two then else
+
+    undone : (r : Successors) → back (targetsOf r) ≡ r
+    undone Successors.None = refl
+    undone (Successors.One next) = refl
+    undone (Successors.Two then else) = refl
+
+pub readOf-injective : Injective readOf
+readOf-injective = taken-back readOf (caseOf Verdict.Graph Verdict.Refused) undone
+  where
+    undone : (r : Verdict) → caseOf Verdict.Graph Verdict.Refused (readOf r) ≡ r
+    undone (Verdict.Graph header) = refl
+    undone (Verdict.Refused number place) = refl
+
+pub hardeningOf-injective : Injective hardeningOf
+hardeningOf-injective = taken-back hardeningOf (caseOf Hardening.Hardened Hardening.Refused) undone
+  where
+    undone : (r : Hardening) → caseOf Hardening.Hardened Hardening.Refused (hardeningOf r) ≡ r
+    undone (Hardening.Hardened header) = refl
+    undone (Hardening.Refused number place) = refl
+
+pub campaignOf-injective : Injective campaignOf
+campaignOf-injective = taken-back campaignOf (caseOf CampaignAnswer.Scored CampaignAnswer.Refused) undone
+  where
+    undone : (r : CampaignAnswer) → caseOf CampaignAnswer.Scored CampaignAnswer.Refused (campaignOf r) ≡ r
+    undone (CampaignAnswer.Scored score) = refl
+    undone (CampaignAnswer.Refused number place) = refl
+
+-- ---- words
+
+pub unique-word : (words : List ℕ) (i : ℕ) → OneAnswer (Word words i)
+unique-word words i r s p q = same p q
+
+pub unique-number-at : (bytes : List ℕ) (at : ℕ) → OneAnswer (NumberAt bytes at)
+unique-number-at bytes at r s p q = readingOf-injective r s (same p q)
+
+-- ---- graph
+
+pub unique-runnable : OneAnswer Runnable
+unique-runnable r s p q = same p q
+
+pub unique-source : OneAnswer Source
+unique-source r s p q = same p q
+
+pub unique-role-at : (kind word : ℕ) → OneAnswer (RoleAt kind word)
+unique-role-at kind word r s p q = same p q
+
+pub unique-fault : (kinds registers nodes : ℕ) (role : Role) (word : ℕ) → OneAnswer (FaultOf kinds registers nodes role word)
+unique-fault kinds registers nodes role word r s p q = same p q
+
+pub unique-targets : (table : List ℕ) (node : ℕ) → OneAnswer (Targets table node)
+unique-targets table node r s p q = targetsOf-injective r s (same p q)
+
+module _ (registers nodes entry : ℕ) (table : List ℕ) where
+  pub unique-check-runnable : OneAnswer (CheckRunnable registers nodes entry table)
+  unique-check-runnable r s p q = checkOf-injective r s (same p q)
+
+  pub unique-check-source : OneAnswer (CheckSource registers nodes entry table)
+  unique-check-source r s p q = checkOf-injective r s (same p q)
+
+-- ---- file
+
+pub unique-read : (bytes table : List ℕ) → OneBuffer (Read bytes table)
+unique-read bytes table r s x y p q = (readOf-injective r s (same (p .0) (q .0)), same (p .1) (q .1))
+
+-- ---- harden
+
+pub unique-harden : (registers nodes entry : ℕ) (table out : List ℕ) → OneBuffer (Harden registers nodes entry table out)
+unique-harden registers nodes entry table out r s x y p q =
+    (hardeningOf-injective r s (same (p .0) (q .0)), same (p .1) (q .1))
+
+-- ---- bench
+
+module _ (registers nodes entry : ℕ) (table inputs : List ℕ) where
+  pub unique-run : (events : List ℕ) (budget : ℕ) (fault : Fault) → OneBuffer (Run registers nodes entry table inputs events budget fault)
+  unique-run events budget fault r s x y p q = (same (p .0) (q .0), same (p .1) (q .1))
+
+  pub unique-campaign : (first second : List ℕ) (budget : ℕ) → TwoBuffers (Campaign registers nodes entry table inputs first second budget)
+  unique-campaign first second budget r s x y v w p q =
+      (campaignOf-injective r s (same (p .0) (q .0)), same (p .1) (q .1), same (p .2) (q .2))

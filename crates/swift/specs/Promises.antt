@@ -1,0 +1,112 @@
+-- Document 01, "What the contracts must shut out": what each public function promises, as a relation between what it is given,
+-- its answer r, and what each buffer that it may write holds afterwards. Each promise is the `ensures` of the function named
+-- above it, clause by clause: what a buffer x holds at entry, `now (x .entry)`, is written x, and what it holds at exit,
+-- `now (x .exit)`, is written x′. proofs/Unique.antt shows that each is met by one answer and one content.
+-- Assumes nothing.
+use Prim.Native.Nat.{ℕ}
+use mathlib.Core.Path.{_≡_}
+use mathlib.Core.List.{List}
+use lib.ListN.{length, getD}
+use Rattle.words.specs.Number.{readingOf, numberAt}
+use Rattle.words.specs.declared.Number.{Number}
+use Rattle.graph.specs.Limits.{runnable, source}
+use Rattle.graph.specs.Kinds.{roleAt, fault}
+use Rattle.graph.specs.Nodes.{targets, nodeAt}
+use Rattle.graph.specs.Successors.{targetsOf}
+use Rattle.graph.specs.Checks.{checkOf, runnableCheck, sourceCheck}
+use Rattle.graph.specs.declared.Check.{Check}
+use Rattle.graph.specs.declared.Limits.{Limits}
+use Rattle.graph.specs.declared.Role.{Role}
+use Rattle.graph.specs.declared.Successors.{Successors}
+use Rattle.file.specs.Reading.{readOf, readAnswer, readTable}
+use Rattle.file.specs.declared.Verdict.{Verdict}
+use Rattle.harden.specs.Hardened.{hardeningOf, hardenAnswer, hardenOutput}
+use Rattle.harden.specs.declared.Hardening.{Hardening}
+use Rattle.bench.specs.Runs.{answerOf, runAnswer, runEvents}
+use Rattle.bench.specs.Campaigns.{campaignOf, campaignAnswer, campaignFirst, campaignSecond}
+use Rattle.bench.specs.declared.Fault.{Fault}
+use Rattle.bench.specs.declared.RunAnswer.{RunAnswer}
+use Rattle.bench.specs.declared.CampaignAnswer.{CampaignAnswer}
+
+-- ---- one answer, and one content of each buffer
+
+-- any two answers that meet the promise are one
+abbrev pub OneAnswer : {A : Type 0} → (A → Type 0) → Type 0
+OneAnswer {A} Promise = (r s : A) → Promise r → Promise s → r ≡ s
+
+-- any two answers that meet the promise are one, and so are the contents of the buffer
+abbrev pub OneBuffer : {A : Type 0} → (A → List ℕ → Type 0) → Type 0
+OneBuffer {A} Promise = (r s : A) (x y : List ℕ) → Promise r x → Promise s y → (r ≡ s) × (x ≡ y)
+
+-- the same of two buffers
+abbrev pub TwoBuffers : {A : Type 0} → (A → List ℕ → List ℕ → Type 0) → Type 0
+TwoBuffers {A} Promise =
+    (r s : A) (x y v w : List ℕ) → Promise r x v → Promise s y w → (r ≡ s) × (x ≡ y) × (v ≡ w)
+
+-- ---- words
+
+-- words::word
+abbrev pub Word : List ℕ → ℕ → ℕ → Type 0
+Word words i r = r ≡ getD words i 0
+
+-- words::number_at
+abbrev pub NumberAt : List ℕ → ℕ → Number → Type 0
+NumberAt bytes at r = readingOf r ≡ numberAt bytes at
+
+-- ---- graph
+
+-- graph::Limits::runnable
+abbrev pub Runnable : Limits → Type 0
+Runnable r = r ≡ runnable
+
+-- graph::Limits::source
+abbrev pub Source : Limits → Type 0
+Source r = r ≡ source
+
+-- graph::role_at
+abbrev pub RoleAt : ℕ → ℕ → Role → Type 0
+RoleAt kind word r = r ≡ roleAt kind word
+
+-- graph::fault
+abbrev pub FaultOf : ℕ → ℕ → ℕ → Role → ℕ → ℕ → Type 0
+FaultOf kinds registers nodes role word r = r ≡ fault kinds registers nodes role word
+
+-- graph::targets
+abbrev pub Targets : List ℕ → ℕ → Successors → Type 0
+Targets table node r = targetsOf r ≡ targets (nodeAt table node)
+
+-- graph::check_runnable
+abbrev pub CheckRunnable : ℕ → ℕ → ℕ → List ℕ → Check → Type 0
+CheckRunnable registers nodes entry table r = checkOf r ≡ runnableCheck registers nodes entry table
+
+-- graph::check_source
+abbrev pub CheckSource : ℕ → ℕ → ℕ → List ℕ → Check → Type 0
+CheckSource registers nodes entry table r = checkOf r ≡ sourceCheck registers nodes entry table
+
+-- ---- file
+
+-- file::read
+abbrev pub Read : List ℕ → List ℕ → Verdict → List ℕ → Type 0
+Read bytes table r table′ = (readOf r ≡ readAnswer bytes (length table)) × (table′ ≡ readTable bytes table)
+
+-- ---- harden
+
+-- harden::harden
+abbrev pub Harden : ℕ → ℕ → ℕ → List ℕ → List ℕ → Hardening → List ℕ → Type 0
+Harden registers nodes entry table out r out′ =
+    (hardeningOf r ≡ hardenAnswer registers nodes entry table (length out)) × (out′ ≡ hardenOutput registers nodes entry table out)
+
+-- ---- bench
+
+-- bench::run
+abbrev pub Run : ℕ → ℕ → ℕ → List ℕ → List ℕ → List ℕ → ℕ → Fault → RunAnswer → List ℕ → Type 0
+Run registers nodes entry table inputs events budget fault r events′ =
+    (r ≡ answerOf (runAnswer registers nodes entry table inputs (length events) budget fault))
+    × (events′ ≡ runEvents registers nodes entry table inputs events budget fault)
+
+-- bench::campaign
+abbrev pub Campaign : ℕ → ℕ → ℕ → List ℕ → List ℕ → List ℕ → List ℕ → ℕ → CampaignAnswer → List ℕ → List ℕ → Type 0
+Campaign registers nodes entry table inputs first second budget r first′ second′ =
+    (campaignOf r ≡ campaignAnswer registers nodes entry table inputs (length first) (length second) budget)
+    × (first′ ≡ campaignFirst registers nodes entry table inputs first second budget)
+    × (second′ ≡ campaignSecond registers nodes entry table inputs first second budget)
