@@ -9,11 +9,16 @@ use lib.ListN.{length, take, drop, replicate, length-replicate}
 use lib.Dec.{leb}
 use borrow.Author.Tests.{leb-true}
 use lib.Seq.{take-at}
+use Rattle.text.specs.Places.{Wrote}
 use Rattle.words.specs.Answer.{Answer, given, refused, demand, andThen, written}
-use Rattle.words.specs.Buffer.{over}
+use Rattle.words.specs.Buffer.{over, put}
+use Rattle.words.proofs.Puts.{put-over, length-put}
 use Rattle.graph.specs.Checks.{runnableCheck, sourceCheck}
 use Rattle.graph.specs.Nodes.{nodeAt}
 use Rattle.graph.specs.declared.Header.{Header}
+use Rattle.bench.specs.Campaigns.{campaignOf, campaignAnswer}
+use Rattle.bench.specs.declared.CampaignAnswer.{CampaignAnswer}
+use Rattle.bench.specs.declared.Score.{Score}
 use Rattle.bench.specs.declared.Fault.{Fault}
 use Rattle.bench.specs.declared.Outcome.{Outcome}
 use Rattle.bench.specs.declared.RunAnswer.{RunAnswer}
@@ -23,8 +28,8 @@ use Rattle.bench.specs.Steps.{Setting, Progress}
 use Rattle.bench.specs.Runs.{runOf, settled, answerOf, runAnswer, runEvents, mostSteps}
 use Rattle.bench.proofs.Bounds.{within}
 use Rattle.bench.proofs.Pairs.{Paired, pairs}
-use Rattle.desk.specs.Lines.{runText, refusalLine}
-use Rattle.desk.specs.Programs.{tableWords, Graph, loadedOf, readGraph, hardenGraph, graphIn, textOf, runOn, progressText}
+use Rattle.desk.specs.Lines.{runText, refusalLine, scoreLine}
+use Rattle.desk.specs.Programs.{tableWords, Graph, loadedOf, readGraph, hardenGraph, graphIn, textOf, runOn, scoreOn, progressText}
 use Rattle.desk.specs.declared.loading.Loaded.{Loaded}
 use Rattle.file.specs.declared.Verdict.{Verdict as Verdict′}
 use Rattle.file.specs.Reading.{readOf, readAnswer, readTable}
@@ -108,9 +113,12 @@ module _ (h : Header) (table inputs buffer : List ℕ) (budget : ℕ) (fault : F
   unfolding runOn
   refused-text number place v = refused-by answer number place (verdict-is v)
 
--- a table of zeros is as long as the largest graph's
+-- so many zeros have that length
+pub space-length : (most : ℕ) (l : List ℕ) → l ≡ replicate most 0 → length l ≡ most
+space-length most l e = ap length e ∙ length-replicate {A = ℕ} most 0
+
 pub zeros-length : (table : List ℕ) → table ≡ replicate tableWords 0 → length table ≡ tableWords
-zeros-length table e = ap length e ∙ length-replicate {A = ℕ} tableWords 0
+zeros-length = space-length tableWords
 
 -- what `read` answered and left in a table of zeros
 module _ (bytes table last : List ℕ) (r : Verdict′) (e : table ≡ replicate tableWords 0) (f : readOf r ≡ readAnswer bytes (length table)) (g : last ≡ readTable bytes table) where
@@ -160,17 +168,32 @@ pub load-plain : (bytes : List ℕ) (a : Answer Graph) (harden : Bool) → harde
 unfolding graphIn
 load-plain bytes a harden is e = rw is e
 
--- a loaded graph in text
-module _ {A : Type 0} (a : Answer Graph) (after : Graph → Answer A) (text : A → List ℕ) (r : Loaded) (table : List ℕ) (e : loadedOf r table ≡ a) where
-  pub graph-text : (h : Header) → r ≡ Loaded.Graph h → textOf (after (record { header = h; table = table })) text ≡ textOf (andThen a after) text
-  graph-text h is = ap (λ (x : Answer Graph). textOf (andThen x after) text) (ap (λ (x : Loaded). loadedOf x table) (sym is) ∙ e)
+-- the same text under another name
+pub wrote-as : {l m : List ℕ} {at p : ℕ} {xs ys : List ℕ} → xs ≡ ys → Wrote l at xs m p → Wrote l at ys m p
+wrote-as e w = rw e at w
 
-  pub graph-refused : (number place : ℕ) → r ≡ Loaded.Refused number place → refusalLine number place ≡ textOf (andThen a after) text
-  graph-refused number place is = ap (λ (x : Answer Graph). textOf (andThen x after) text) (ap (λ (x : Loaded). loadedOf x table) (sym is) ∙ e)
+-- a loaded graph in text
+module _ (a : Answer Graph) (r : Loaded) (table : List ℕ) (e : loadedOf r table ≡ a) where
+  loaded-as : {x : Loaded} → r ≡ x → loadedOf x table ≡ a
+  loaded-as is = ap (λ (x : Loaded). loadedOf x table) (sym is) ∙ e
+
+  pub graph-text : (text : Graph → List ℕ) (h : Header) → r ≡ Loaded.Graph h → text (record { header = h; table = table }) ≡ textOf a text
+  graph-text text h is = ap (λ (x : Answer Graph). textOf x text) (loaded-as is)
+
+  pub graph-refused : (text : Graph → List ℕ) (number place : ℕ) → r ≡ Loaded.Refused number place → refusalLine number place ≡ textOf a text
+  graph-refused text number place is = ap (λ (x : Answer Graph). textOf x text) (loaded-as is)
+
+  pub then-text : {A : Type 0} (after : Graph → Answer A) (text : A → List ℕ) (h : Header) → r ≡ Loaded.Graph h
+      → textOf (after (record { header = h; table = table })) text ≡ textOf (andThen a after) text
+  then-text after text h is = ap (λ (x : Answer Graph). textOf (andThen x after) text) (loaded-as is)
+
+  pub then-refused : {A : Type 0} (after : Graph → Answer A) (text : A → List ℕ) (number place : ℕ) → r ≡ Loaded.Refused number place
+      → refusalLine number place ≡ textOf (andThen a after) text
+  then-refused after text number place is = ap (λ (x : Answer Graph). textOf (andThen x after) text) (loaded-as is)
 
 -- a hardened graph has its rows in its table
 room-by : (checked : Answer Unit) (fits : Bool) (n room : ℕ) (h k : Header) → fits ≡ leb (6 * n) room → h .nodes ≡ n
-  → andThen checked (λ _. demand {A = Header} fits 11 (6 * n) (given h)) ≡ given k → 6 * k .nodes ≤ room
+    → andThen checked (λ _. demand {A = Header} fits 11 (6 * n) (given h)) ≡ given k → 6 * k .nodes ≤ room
 room-by (given tt) true n room h k f is e =
     let same : h ≡ k = cc in
     let fit : 6 * n ≤ room = leb-true (6 * n) room (sym f) in
@@ -189,17 +212,19 @@ headed : Header → Answer Graph → Header
 headed d (given x) = x .header
 headed d (refused number place) = d
 
+room-of : (a : Answer Header) (table : List ℕ) (k : Graph) → ((x : Header) → a ≡ given x → 6 * x .nodes ≤ tableWords)
+    → andThen {B = Graph} a (λ x. given (record { header = x; table = table })) ≡ given k → 6 * k .header .nodes ≤ tableWords
+unfolding headed
+room-of (given x) table k fits e = let same : x ≡ k .header = ap (headed x) e in rw same at (fits x refl)
+room-of (refused number place) table k fits e = let z : _≡_ {A = ℕ} 0 1 = cc in absurd (omega arith)
+
 hardened-room : (g k : Graph) → hardenGraph g ≡ given k → 6 * k .header .nodes ≤ tableWords
-unfolding hardenGraph headed
+unfolding hardenGraph
 hardened-room g k e =
     let h = g .header in
-    by (hardenAnswer (h .registers) (h .nodes) (h .entry) (g .table) tableWords) (harden-room (h .registers) (h .nodes) (h .entry) (g .table) tableWords) e
-  where
-    by : (a : Answer Header) → ((x : Header) → a ≡ given x → 6 * x .nodes ≤ tableWords)
-      → andThen a (λ x. given {A = Graph} (record { header = x; table = hardenOutput (g .header .registers) (g .header .nodes) (g .header .entry) (g .table) (replicate tableWords 0) })) ≡ given k
-      → 6 * k .header .nodes ≤ tableWords
-    by (given x) fits e = let same : x ≡ k .header = ap (headed x) e in rw same at (fits x refl)
-    by (refused number place) fits e = let z : _≡_ {A = ℕ} 0 1 = cc in absurd (omega arith)
+    room-of (hardenAnswer (h .registers) (h .nodes) (h .entry) (g .table) tableWords)
+    (hardenOutput (h .registers) (h .nodes) (h .entry) (g .table) (replicate tableWords 0)) k
+    (harden-room (h .registers) (h .nodes) (h .entry) (g .table) tableWords) e
 
 -- the rows of a graph that was read and hardened lie in its table
 pub graph-room : (bytes : List ℕ) (r : Loaded) (h : Header) (table : List ℕ) → loadedOf r table ≡ graphIn true bytes → r ≡ Loaded.Graph h → 6 * h .nodes ≤ tableWords
@@ -210,3 +235,32 @@ graph-room bytes r h table e is =
     by : (a : Answer Graph) → andThen a hardenGraph ≡ loadedOf (Loaded.Graph h) table → 6 * h .nodes ≤ tableWords
     by (given g) e = hardened-room g (record { header = h; table = table }) e
     by (refused number place) e = let z : _≡_ {A = ℕ} 0 1 = cc in absurd (omega arith)
+
+-- what `campaign` answered
+module _ (h : Header) (table inputs : List ℕ) (first second budget : ℕ) (r : CampaignAnswer) (e : second ≡ first)
+    (f : campaignOf r ≡ campaignAnswer (h .registers) (h .nodes) (h .entry) table inputs first second budget) where
+  abbrev line : List ℕ
+  line = textOf (scoreOn inputs budget first (record { header = h; table = table })) scoreLine
+
+  scored-as : {x : CampaignAnswer} → r ≡ x → textOf (campaignOf x) scoreLine ≡ line
+  unfolding scoreOn
+  scored-as is =
+      ap (λ (a : Answer Score). textOf a scoreLine)
+      (ap campaignOf (sym is) ∙ f ∙ ap (λ (n : ℕ). campaignAnswer (h .registers) (h .nodes) (h .entry) table inputs first n budget) e)
+
+  pub scored-text : (s : Score) → r ≡ CampaignAnswer.Scored s → scoreLine s ≡ line
+  scored-text s is = scored-as is
+
+  pub campaign-refused : (number place : ℕ) → r ≡ CampaignAnswer.Refused number place → refusalLine number place ≡ line
+  campaign-refused number place is = scored-as is
+
+-- the front of a buffer of zeros into which words were put
+pub put-front : (l ws : List ℕ) (count most : ℕ) → l ≡ replicate most 0 → length ws ≡ count → count ≤ most → take count (put l 0 ws) ≡ ws
+unfolding over
+put-front l ws count most e n h =
+    let size : length l ≡ most = space-length most l e in
+    let fits : length ws ≤ length l = omega arith in
+    rw (put-over l ws fits) (front l ws count n)
+  where
+    front : (l ws : List ℕ) (count : ℕ) → length ws ≡ count → take count (over ws l) ≡ ws
+    front l ws count n = take-at ws (drop (length ws) l) count n

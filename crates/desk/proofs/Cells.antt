@@ -77,7 +77,7 @@ module _ (cells : List ℕ) where
   unfolding otherFrom
   other-none i count h = let left : count - i ≡ 0 = omega arith in rw left
 
-  words-length : (from k : ℕ) → length (wordsOf cells from k) ≡ k
+  pub words-length : (from k : ℕ) → length (wordsOf cells from k) ≡ k
   unfolding wordsOf
   words-length from zero = refl
   words-length from (suc k) =

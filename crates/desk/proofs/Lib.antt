@@ -1,4 +1,5 @@
 -- Laws of the arguments, of the texts and of what they are made of.
-mod Cells
 mod Answers
+mod Cells
 mod Rows
+mod Shows

@@ -1,6 +1,6 @@
 -- How the programs take their arguments: in cells of sixteen bytes, one a cell, a length below sixteen and then the text.
 -- Assumes nothing.
-use Prim.Native.Nat.{ℕ, zero, suc, _+_, _-_, _*_, _/_}
+use Prim.Native.Nat.{ℕ, zero, suc, _+_, _-_, _*_, _/_, _≤_}
 use mathlib.Core.Bool.{Bool, true, false, cond, _&&_}
 use mathlib.Core.List.{List, [], _∷_, _++_}
 use mathlib.Core.Option.{Option, none, some}
@@ -71,6 +71,11 @@ settingsBy Unknown budget room = Wrong Wanted.Mode
 unfoldable pub settingsOf : List ℕ → Settings
 settingsOf cells = settingsBy (modeOf (argument cells 0)) (valueOf (argument cells 1)) (valueOf (argument cells 2))
 
+-- settings never have more room than that
+abbrev pub RoomIn : Settings → Type 0
+RoomIn (Ready hardened budget room) = room ≤ mostRoom
+RoomIn (Wrong wanted) = Unit {0}
+
 -- a place
 abbrev pub placeOf : Option ℕ → Choice
 placeOf none = Other
@@ -111,3 +116,8 @@ wordsIn cells from =
     cond (leb count (from + mostWords))
     (cond (leb count first) (All (count - from)) (Bad (Wanted.Word (first + 1))))
     (Bad (Wanted.End (from + mostWords + 1)))
+
+-- there are never more words than that
+abbrev pub WordsFew : Words → Type 0
+WordsFew (All count) = count ≤ mostWords
+WordsFew (Bad wanted) = Unit {0}

@@ -2,7 +2,7 @@
 ghost use Prim.Native.Nat.{_+_, _-_, _*_, _≤_};
 ghost use mathlib.Core.Path.{_≡_};
 ghost use lib.ListN.{length};
-ghost use Rattle.desk.specs.Arguments.{sameText, modeOf, faultOf, settingsOf, numbersOf, wordsIn, wordOf, wordsOf, isNumber, otherFrom};
+ghost use Rattle.desk.specs.Arguments.{sameText, modeOf, faultOf, settingsOf, numbersOf, RoomIn, wordsIn, WordsFew, wordOf, wordsOf, isNumber, otherFrom};
 ghost use Rattle.text.specs.Decimals.{valueOf};
 ghost use Rattle.words.specs.Buffer.{put};
 ghost use Rattle.desk.specs.Arguments.{argument as argumentText};
@@ -134,6 +134,7 @@ pub fn fill(cells: &[u8], from: usize, count: usize, inputs: &mut [u32])
 // The first three arguments.
 pub fn settings(cells: &[u8]) -> Settings
     ensures { λ r. ⌜ r ≡ settingsOf (now (cells .entry)) ⌝ }
+    ensures { λ r. ⌜ RoomIn r ⌝ }
 {
     match mode(argument(cells, 0)) {
         Mode::Plain => numbers(cells, false),
@@ -145,6 +146,7 @@ pub fn settings(cells: &[u8]) -> Settings
 // The second and the third argument.
 fn numbers(cells: &[u8], hardened: bool) -> Settings
     ensures { λ r. ⌜ r ≡ numbersOf hardened (valueOf (argumentText (now (cells .entry)) 1)) (valueOf (argumentText (now (cells .entry)) 2)) ⌝ }
+    ensures { λ r. ⌜ RoomIn r ⌝ }
 {
     let second = text::value(argument(cells, 1));
     let Decimal::Value(budget) = second else {
@@ -166,6 +168,7 @@ fn numbers(cells: &[u8], hardened: bool) -> Settings
 pub fn words(cells: &[u8], from: usize) -> Words
     requires { ⌜ from ≤ 4 ⌝ }
     ensures { λ r. ⌜ r ≡ wordsIn (now (cells .entry)) from ⌝ }
+    ensures { λ r. ⌜ WordsFew r ⌝ }
 {
     let count = cells.len() / 16;
     if from + 4096 < count {

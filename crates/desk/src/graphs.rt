@@ -57,7 +57,16 @@ pub fn score_text(
     requires { ⌜ length (now second) ≡ length (now first) ⌝ }
     ensures { λ r. ⌜ Wrote (now (text .entry)) 0 (textOf (scoreOn (now (inputs .entry)) budget (length (now (first .entry))) (record { header = h; table = now (table .entry) })) scoreLine) (now (text .exit)) r ⌝ }
 {
-    match bench::campaign(h.registers, h.nodes, h.entry, table, inputs, first, second, budget) {
+    match bench::campaign(
+        h.registers,
+        h.nodes,
+        h.entry,
+        table,
+        inputs,
+        first,
+        second,
+        budget,
+    ) {
         CampaignAnswer::Scored(s) => score(text, 0, s),
         CampaignAnswer::Refused(number, place) => refusal(text, 0, number, place),
     }

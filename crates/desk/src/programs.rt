@@ -132,15 +132,7 @@ fn run_words(
         Words::All(count) => {
             let mut inputs = word_space();
             arguments::fill(cells, 4, count, &mut inputs);
-            Printed::Output(run_graph(
-                bytes,
-                hardened,
-                &inputs[..count],
-                budget,
-                room,
-                fault,
-                text,
-            ))
+            Printed::Output(run_graph(bytes, hardened, &inputs[..count], budget, room, fault, text))
         }
         Words::Bad(wanted) => Printed::Complaint(lines::complaint(text, wanted)),
     }
@@ -180,14 +172,7 @@ pub fn score_words(
         Words::All(count) => {
             let mut inputs = word_space();
             arguments::fill(cells, 3, count, &mut inputs);
-            Printed::Output(score_graph(
-                bytes,
-                hardened,
-                &inputs[..count],
-                budget,
-                room,
-                text,
-            ))
+            Printed::Output(score_graph(bytes, hardened, &inputs[..count], budget, room, text))
         }
         Words::Bad(wanted) => Printed::Complaint(lines::complaint(text, wanted)),
     }

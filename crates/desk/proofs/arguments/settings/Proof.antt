@@ -29,15 +29,18 @@ enum-told-3 c = search needs
 
 returns : tie.Need-returns
 unfolding settingsOf
-returns c = rw (sym (c .before .before .before .before .argument .ensures), sym (c .before .before .before .mode .ensures), c .before .enum-told .given .1) (c .numbers .ensures)
+returns c =
+    (rw (sym (c .before .before .before .before .argument .ensures), sym (c .before .before .before .mode .ensures), c .before .enum-told .given .1) (c .numbers .ensures .0), c .numbers .ensures .1)
 
 returns-2 : tie.Need-returns-2
 unfolding settingsOf
-returns-2 c = rw (sym (c .before .before .before .before .argument .ensures), sym (c .before .before .before .mode .ensures), c .before .enum-told2 .given .1) (c .numbers2 .ensures)
+returns-2 c =
+    (rw (sym (c .before .before .before .before .argument .ensures), sym (c .before .before .before .mode .ensures), c .before .enum-told2 .given .1) (c .numbers2 .ensures .0), c .numbers2 .ensures .1)
 
 returns-3 : tie.Need-returns-3
 unfolding settingsOf
-returns-3 c = rw (sym (c .before .before .before .argument .ensures), sym (c .before .before .mode .ensures), c .enum-told3 .given .1)
+returns-3 c =
+    (rw (sym (c .before .before .before .argument .ensures), sym (c .before .before .mode .ensures), c .enum-told3 .given .1), tt)
 
 pub settings-spec : {M : Type 1} → statement M
 settings-spec =

@@ -1,63 +1,50 @@
+-- `desk::graphs::score_text` meets its contract.
+-- Assumes nothing.
+use mathlib.Core.Path.{sym}
+use denote.Ref.{now}
+use Rattle.desk.proofs.Answers.{scored-text, campaign-refused}
 use borrow.Author.Needs.{needs}
 use Rattle.desk.proofs.graphs.score_text.Statement.{statement}
 use Rattle.desk.proofs.graphs.score_text.Tie as tie
-use Rattle.desk.proofs.graphs.score_text.Reads as reads
-use Rattle.desk.proofs.graphs.score_text.Lts as lts
-use Rattle.bench.proofs.campaign.Reads as campaign-reads
-use Rattle.desk.proofs.lines.refusal.Reads as refusal-reads
-use Rattle.desk.proofs.lines.score.Reads as score-reads
 
--- src/graphs.rt:60:11
 campaign-requires : tie.Need-campaign-requires
 campaign-requires c κs = search needs
 
--- src/graphs.rt:61:32
 enum-known-s : tie.Need-enum-known-s
 enum-known-s c = search needs
 
--- src/graphs.rt:61:38
 score-requires : tie.Need-score-requires
 score-requires c κs = search needs
 
--- src/graphs.rt:62:33
 enum-known-number : tie.Need-enum-known-number
 enum-known-number c = search needs
 
--- src/graphs.rt:62:51
 refusal-requires : tie.Need-refusal-requires
 refusal-requires c κs = search needs
 
--- src/graphs.rt:48:1
 same-length : tie.Need-same-length
 same-length c = search needs
 
--- src/graphs.rt:48:1
 same-length-2 : tie.Need-same-length-2
 same-length-2 c = search needs
 
--- src/graphs.rt:48:1
 same-length-3 : tie.Need-same-length-3
 same-length-3 c = search needs
 
--- src/graphs.rt:48:1
 returns : tie.Need-returns
-returns c = ?
+returns c = rw (sym (scored-text (c .before .before .before .before .before .before .before .before .before .before .before .before .before .before .before .before .before .before .before .args .h) (now (c .before .before .before .before .before .before .before .before .before .before .before .before .before .before .before .before .before .before .before .args .table)) (now (c .before .before .before .before .before .before .before .before .before .before .before .before .before .before .before .before .before .before .before .args .inputs)) _ _ _ _ (c .before .before .before .before .before .before .before .before .before .before .before .before .before .before .before .before .before .before .before .pre) (c .before .before .before .before .before .before .before .before .before .before .before .campaign .ensures .0) _ (c .before .before .before .before .before .s .given .1))) (c .before .before .score .ensures)
 
--- src/graphs.rt:48:1
 same-length-4 : tie.Need-same-length-4
 same-length-4 c = search needs
 
--- src/graphs.rt:48:1
 same-length-5 : tie.Need-same-length-5
 same-length-5 c = search needs
 
--- src/graphs.rt:48:1
 same-length-6 : tie.Need-same-length-6
 same-length-6 c = search needs
 
--- src/graphs.rt:48:1
 returns-2 : tie.Need-returns-2
-returns-2 c = ?
+returns-2 c = rw (sym (campaign-refused (c .before .before .before .before .before .before .before .before .before .before .before .before .before .before .before .before .before .before .before .args .h) (now (c .before .before .before .before .before .before .before .before .before .before .before .before .before .before .before .before .before .before .before .args .table)) (now (c .before .before .before .before .before .before .before .before .before .before .before .before .before .before .before .before .before .before .before .args .inputs)) _ _ _ _ (c .before .before .before .before .before .before .before .before .before .before .before .before .before .before .before .before .before .before .before .pre) (c .before .before .before .before .before .before .before .before .before .before .before .campaign .ensures .0) _ _ (c .before .before .before .before .before .number .given .1))) (c .before .before .refusal .ensures)
 
 pub score-text-spec : {M : Type 1} → statement M
 score-text-spec =

@@ -1,52 +1,39 @@
+-- `desk::programs::run_with` meets its contract.
+-- Assumes nothing.
+use mathlib.Core.Path.{sym}
 use borrow.Author.Needs.{needs}
 use Rattle.desk.proofs.programs.run_with.Statement.{statement}
 use Rattle.desk.proofs.programs.run_with.Tie as tie
-use Rattle.desk.proofs.programs.run_with.Reads as reads
-use Rattle.desk.proofs.programs.run_with.Lts as lts
-use Rattle.desk.proofs.arguments.argument.Reads as argument-reads
-use Rattle.desk.proofs.arguments.fault.Reads as fault-reads
-use Rattle.desk.proofs.lines.complaint.Reads as complaint-reads
-use Rattle.desk.proofs.programs.run_words.Reads as run-words-reads
 
--- src/programs.rt:161:28
 argument-requires : tie.Need-argument-requires
 argument-requires c κs = search needs
 
--- src/programs.rt:161:11
 fault-requires : tie.Need-fault-requires
 fault-requires c κs = search needs
 
--- src/programs.rt:162:24
 enum-known-fault : tie.Need-enum-known-fault
 enum-known-fault c = search needs
 
--- src/programs.rt:162:34
 run-words-requires : tie.Need-run-words-requires
 run-words-requires c κs = search needs
 
--- src/programs.rt:163:62
 enum-told : tie.Need-enum-told
 enum-told c = search needs
 
--- src/programs.rt:163:45
 complaint-requires : tie.Need-complaint-requires
 complaint-requires c κs = search needs
 
--- src/programs.rt:150:1
 same-length : tie.Need-same-length
 same-length c = search needs
 
--- src/programs.rt:150:1
 returns : tie.Need-returns
-returns c = ?
+returns c = rw (sym (c .before .before .before .before .before .before .before .before .argument .ensures), sym (c .before .before .before .before .before .before .before .fault .ensures), c .before .before .before .before .before .fault2 .given .1) (c .before .before .run-words .ensures)
 
--- src/programs.rt:150:1
 same-length-2 : tie.Need-same-length-2
 same-length-2 c = search needs
 
--- src/programs.rt:150:1
 returns-2 : tie.Need-returns-2
-returns-2 c = ?
+returns-2 c = rw (sym (c .before .before .before .before .before .before .before .argument .ensures), sym (c .before .before .before .before .before .before .fault .ensures), c .before .before .before .before .enum-told .given .1) (c .before .before .complaint .ensures)
 
 pub run-with-spec : {M : Type 1} → statement M
 run-with-spec =

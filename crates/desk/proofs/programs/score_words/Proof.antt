@@ -1,69 +1,70 @@
+-- `desk::programs::score_words` meets its contract.
+-- Assumes nothing.
+use Prim.Native.Nat.{_≤_}
+use mathlib.Core.Path.{sym}
+use native.Mathlib.Omega.{arith}
+use denote.Ref.{now}
+use lib.ListN.{length}
+use lib.Seq.{length-take-le}
+use Rattle.desk.specs.Arguments.{mostWords}
+use Rattle.desk.specs.Programs.{scorePrint}
+use Rattle.desk.proofs.Answers.{space-length}
+use Rattle.desk.proofs.Shows.{few-words, words-shown, words-wrong}
 use borrow.Author.Needs.{needs}
 use Rattle.desk.proofs.programs.score_words.Statement.{statement}
 use Rattle.desk.proofs.programs.score_words.Tie as tie
-use Rattle.desk.proofs.programs.score_words.Reads as reads
-use Rattle.desk.proofs.programs.score_words.Lts as lts
-use Rattle.desk.proofs.arguments.fill.Reads as fill-reads
-use Rattle.desk.proofs.arguments.words.Reads as words-reads
-use Rattle.desk.proofs.lines.complaint.Reads as complaint-reads
-use Rattle.desk.proofs.programs.score_graph.Reads as score-graph-reads
-use Rattle.desk.proofs.programs.word_space.Reads as word-space-reads
 
--- src/programs.rt:179:11
 words-requires : tie.Need-words-requires
 words-requires c κs = search needs
 
--- src/programs.rt:180:20
 enum-known-count : tie.Need-enum-known-count
 enum-known-count c = search needs
 
--- src/programs.rt:181:30
 word-space-requires : tie.Need-word-space-requires
 word-space-requires c κs = search needs
 
--- src/programs.rt:182:46
 slice-aggregate-fill : tie.Need-slice-aggregate-fill
 slice-aggregate-fill c = search needs
 
--- src/programs.rt:182:13
 fill-requires : tie.Need-fill-requires
-fill-requires c κs = ?
+fill-requires c κs =
+    let few = few-words (now (c .before .before .before .before .before .before .before .before .before .args .cells)) 3 _ (c .before .before .before .before .before .words .ensures .0) (c .before .before .before .before .before .words .ensures .1) _ (c .before .before .before .count .given .1) in
+    let size = space-length mostWords _ (c .before .word-space .ensures) in
+    (omega arith, omega arith)
 
--- src/programs.rt:186:17
 array-share-prefix-inputs : tie.Need-array-share-prefix-inputs
-array-share-prefix-inputs c = ?
+array-share-prefix-inputs c =
+    let few = few-words (now (c .before .before .before .before .before .before .before .before .before .before .before .args .cells)) 3 _ (c .before .before .before .before .before .before .before .words .ensures .0) (c .before .before .before .before .before .before .before .words .ensures .1) _ (c .before .before .before .before .before .count .given .1) in
+    let size = space-length mostWords _ (c .before .before .before .word-space .ensures) in
+    omega (arith, c .before .fill .kept .1 .1 .1 .0)
 
--- src/programs.rt:186:17
 slice-aggregate-score-graph : tie.Need-slice-aggregate-score-graph
-slice-aggregate-score-graph c = ?
+slice-aggregate-score-graph c =
+    let few = few-words (now (c .before .before .before .before .before .before .before .before .before .before .before .before .args .cells)) 3 _ (c .before .before .before .before .before .before .before .before .words .ensures .0) (c .before .before .before .before .before .before .before .before .words .ensures .1) _ (c .before .before .before .before .before .before .count .given .1) in
+    let size = space-length mostWords _ (c .before .before .before .before .word-space .ensures) in
+    let fit : c .before .before .before .before .before .before .count .given .0 .0 ≤ length (c .before .before .fill .last .1 .1 .1 .0) = omega (arith, c .before .before .fill .kept .1 .1 .1 .0) in
+    sym (length-take-le _ (c .before .before .fill .last .1 .1 .1 .0) fit)
 
--- src/programs.rt:183:29
 score-graph-requires : tie.Need-score-graph-requires
 score-graph-requires c κs = search needs
 
--- src/programs.rt:192:20
 enum-known-wanted : tie.Need-enum-known-wanted
 enum-known-wanted c = search needs
 
--- src/programs.rt:192:50
 complaint-requires : tie.Need-complaint-requires
 complaint-requires c κs = search needs
 
--- src/programs.rt:168:1
 same-length : tie.Need-same-length
 same-length c = search needs
 
--- src/programs.rt:168:1
 returns : tie.Need-returns
-returns c = ?
+returns c = words-shown (now (c .before .before .before .before .before .before .before .before .before .before .before .before .before .before .before .before .args .cells)) 3 _ (c .before .before .before .before .before .before .before .before .before .before .before .before .words .ensures .0) (c .before .before .before .before .before .before .before .before .before .before .before .before .words .ensures .1) (λ inputs. scorePrint (c .before .before .before .before .before .before .before .before .before .before .before .before .before .before .before .before .args .hardened) (c .before .before .before .before .before .before .before .before .before .before .before .before .before .before .before .before .args .budget) (c .before .before .before .before .before .before .before .before .before .before .before .before .before .before .before .before .args .room) inputs (now (c .before .before .before .before .before .before .before .before .before .before .before .before .before .before .before .before .args .bytes))) _ _ _ (c .before .before .before .before .before .before .before .before .before .before .count .given .1) (c .before .before .before .before .before .before .before .before .word-space .ensures) (c .before .before .before .before .before .before .fill .ensures) (c .before .before .score-graph .ensures)
 
--- src/programs.rt:168:1
 same-length-2 : tie.Need-same-length-2
 same-length-2 c = search needs
 
--- src/programs.rt:168:1
 returns-2 : tie.Need-returns-2
-returns-2 c = ?
+returns-2 c = words-wrong (now (c .before .before .before .before .before .before .before .before .before .before .before .args .cells)) 3 _ (c .before .before .before .before .before .before .before .words .ensures .0) (c .before .before .before .before .before .before .before .words .ensures .1) (λ inputs. scorePrint (c .before .before .before .before .before .before .before .before .before .before .before .args .hardened) (c .before .before .before .before .before .before .before .before .before .before .before .args .budget) (c .before .before .before .before .before .before .before .before .before .before .before .args .room) inputs (now (c .before .before .before .before .before .before .before .before .before .before .before .args .bytes))) _ (c .before .before .before .before .before .wanted .given .1) (c .before .before .complaint .ensures)
 
 pub score-words-spec : {M : Type 1} → statement M
 score-words-spec =
