@@ -4,6 +4,7 @@
 use Prim.Native.Nat.{ℕ}
 use mathlib.Core.Path.{_≡_, refl, sym, ap, _∙_}
 use mathlib.Core.List.{List, [], _∷_}
+use mathlib.Core.Option.{Option, none, some}
 use Rattle.words.specs.Answer.{Answer, given, refused}
 use Rattle.words.specs.Number.{readingOf}
 use Rattle.words.specs.declared.Number.{Number}
@@ -19,7 +20,12 @@ use Rattle.harden.specs.declared.Hardening.{Hardening}
 use Rattle.bench.specs.Campaigns.{campaignOf}
 use Rattle.bench.specs.declared.Fault.{Fault}
 use Rattle.bench.specs.declared.CampaignAnswer.{CampaignAnswer}
-use Rattle.swift.specs.Promises.{OneAnswer, OneBuffer, TwoBuffers, Word, NumberAt, Runnable, Source, RoleAt, FaultOf, Targets, CheckRunnable, CheckSource, Read, Harden, Run, Campaign}
+use Rattle.text.specs.Decimals.{decimal, spaced, decimalOf}
+use Rattle.text.specs.Places.{Wrote}
+use Rattle.text.specs.declared.Decimal.{Decimal}
+use Rattle.desk.specs.Programs.{Print, output, complaint, runProgram, scoreProgram, Shown}
+use Rattle.desk.specs.declared.Printed.{Printed}
+use Rattle.swift.specs.Promises.{OneAnswer, OneBuffer, TwoBuffers, Word, NumberAt, Runnable, Source, RoleAt, FaultOf, Targets, CheckRunnable, CheckSource, Read, Harden, Run, Campaign, Byte, Piece, NumberText, AfterSpace, Spaced, Value, Listed, RunShown, ScoreShown}
 
 -- ---- two answers of one meaning are one
 
@@ -87,6 +93,32 @@ campaignOf-injective = taken-back campaignOf (caseOf CampaignAnswer.Scored Campa
     undone (CampaignAnswer.Scored score) = refl
     undone (CampaignAnswer.Refused number place) = refl
 
+pub decimalOf-injective : Injective decimalOf
+decimalOf-injective = taken-back decimalOf back undone
+  where
+    back : Option ℕ → Decimal
+    back (some n) = Decimal.Value n
+    back none = Decimal.Other
+
+    undone : (r : Decimal) → back (decimalOf r) ≡ r
+    undone (Decimal.Value n) = refl
+    undone Decimal.Other = refl
+
+-- ---- what is written
+
+-- the place after a text, and the buffer
+wrote-one : {before text : List ℕ} {at r s : ℕ} {x y : List ℕ} → Wrote before at text x r → Wrote before at text y s → (r ≡ s) × (x ≡ y)
+wrote-one p q = (same (p .place-is) (q .place-is), same (p .buffer-is) (q .buffer-is))
+
+-- the output or the complaint of a program
+shown-one : (before : List ℕ) (print : Print) → OneBuffer (λ r x. Shown before print x r)
+shown-one before (output text) (Printed.Output m) (Printed.Output n) x y p q = let (sizes, texts) = wrote-one p q in (ap Printed.Output sizes, texts)
+shown-one before (output text) (Printed.Output m) (Printed.Complaint n) x y p q = absurd q
+shown-one before (output text) (Printed.Complaint m) s x y p q = absurd p
+shown-one before (complaint text) (Printed.Output m) s x y p q = absurd p
+shown-one before (complaint text) (Printed.Complaint m) (Printed.Output n) x y p q = absurd q
+shown-one before (complaint text) (Printed.Complaint m) (Printed.Complaint n) x y p q = let (sizes, texts) = wrote-one p q in (ap Printed.Complaint sizes, texts)
+
 -- ---- words
 
 pub unique-word : (words : List ℕ) (i : ℕ) → OneAnswer (Word words i)
@@ -139,3 +171,35 @@ module _ (registers nodes entry : ℕ) (table inputs : List ℕ) where
   pub unique-campaign : (first second : List ℕ) (budget : ℕ) → TwoBuffers (Campaign registers nodes entry table inputs first second budget)
   unique-campaign first second budget r s x y v w p q =
       (campaignOf-injective r s (same (p .0) (q .0)), same (p .1) (q .1), same (p .2) (q .2))
+
+-- ---- text
+
+pub unique-byte : (out : List ℕ) (at b : ℕ) → OneBuffer (Byte out at b)
+unique-byte out at b r s x y p q = wrote-one p q
+
+pub unique-piece : (out : List ℕ) (at : ℕ) (text : List ℕ) → OneBuffer (Piece out at text)
+unique-piece out at text r s x y p q = wrote-one p q
+
+pub unique-number : (out : List ℕ) (at n : ℕ) → OneBuffer (NumberText out at n)
+unique-number out at n r s x y p q = wrote-one p q
+
+pub unique-after-space : (out : List ℕ) (at n : ℕ) → OneBuffer (AfterSpace out at n)
+unique-after-space out at n r s x y p q = wrote-one p q
+
+pub unique-spaced : (out : List ℕ) (at : ℕ) (words : List ℕ) → OneBuffer (Spaced out at words)
+unique-spaced out at words r s x y p q = wrote-one p q
+
+pub unique-value : (text : List ℕ) → OneAnswer (Value text)
+unique-value text r s p q = decimalOf-injective r s (same p q)
+
+-- ---- desk
+
+pub unique-list : (bytes text : List ℕ) → OneBuffer (Listed bytes text)
+unique-list bytes text r s x y p q = wrote-one p q
+
+module _ (cells bytes text : List ℕ) where
+  pub unique-run-shown : OneBuffer (RunShown cells bytes text)
+  unique-run-shown r s x y p q = shown-one text (runProgram cells bytes) r s x y p q
+
+  pub unique-score-shown : OneBuffer (ScoreShown cells bytes text)
+  unique-score-shown r s x y p q = shown-one text (scoreProgram cells bytes) r s x y p q

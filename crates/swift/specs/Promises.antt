@@ -5,7 +5,7 @@
 -- Assumes nothing.
 use Prim.Native.Nat.{ℕ}
 use mathlib.Core.Path.{_≡_}
-use mathlib.Core.List.{List}
+use mathlib.Core.List.{List, [], _∷_}
 use lib.ListN.{length, getD}
 use Rattle.words.specs.Number.{readingOf, numberAt}
 use Rattle.words.specs.declared.Number.{Number}
@@ -27,6 +27,11 @@ use Rattle.bench.specs.Campaigns.{campaignOf, campaignAnswer, campaignFirst, ca
 use Rattle.bench.specs.declared.Fault.{Fault}
 use Rattle.bench.specs.declared.RunAnswer.{RunAnswer}
 use Rattle.bench.specs.declared.CampaignAnswer.{CampaignAnswer}
+use Rattle.text.specs.Decimals.{decimal, spaced, decimalOf, valueOf}
+use Rattle.text.specs.Places.{Wrote}
+use Rattle.text.specs.declared.Decimal.{Decimal}
+use Rattle.desk.specs.Programs.{listText, runProgram, scoreProgram, Shown}
+use Rattle.desk.specs.declared.Printed.{Printed}
 
 -- ---- one answer, and one content of each buffer
 
@@ -110,3 +115,43 @@ Campaign registers nodes entry table inputs first second budget r first′ secon
     (campaignOf r ≡ campaignAnswer registers nodes entry table inputs (length first) (length second) budget)
     × (first′ ≡ campaignFirst registers nodes entry table inputs first second budget)
     × (second′ ≡ campaignSecond registers nodes entry table inputs first second budget)
+
+-- ---- text
+
+-- text::byte
+abbrev pub Byte : List ℕ → ℕ → ℕ → ℕ → List ℕ → Type 0
+Byte out at b r out′ = Wrote out at (b ∷ []) out′ r
+
+-- text::piece
+abbrev pub Piece : List ℕ → ℕ → List ℕ → ℕ → List ℕ → Type 0
+Piece out at text r out′ = Wrote out at text out′ r
+
+-- text::number
+abbrev pub NumberText : List ℕ → ℕ → ℕ → ℕ → List ℕ → Type 0
+NumberText out at n r out′ = Wrote out at (decimal n) out′ r
+
+-- text::after_space
+abbrev pub AfterSpace : List ℕ → ℕ → ℕ → ℕ → List ℕ → Type 0
+AfterSpace out at n r out′ = Wrote out at (spaced (n ∷ [])) out′ r
+
+-- text::spaced
+abbrev pub Spaced : List ℕ → ℕ → List ℕ → ℕ → List ℕ → Type 0
+Spaced out at words r out′ = Wrote out at (spaced words) out′ r
+
+-- text::value
+abbrev pub Value : List ℕ → Decimal → Type 0
+Value text r = decimalOf r ≡ valueOf text
+
+-- ---- desk
+
+-- desk::list
+abbrev pub Listed : List ℕ → List ℕ → ℕ → List ℕ → Type 0
+Listed bytes text r text′ = Wrote text 0 (listText bytes) text′ r
+
+-- desk::run
+abbrev pub RunShown : List ℕ → List ℕ → List ℕ → Printed → List ℕ → Type 0
+RunShown cells bytes text r text′ = Shown text (runProgram cells bytes) text′ r
+
+-- desk::score
+abbrev pub ScoreShown : List ℕ → List ℕ → List ℕ → Printed → List ℕ → Type 0
+ScoreShown cells bytes text r text′ = Shown text (scoreProgram cells bytes) text′ r
