@@ -13,6 +13,7 @@ use lib.Dec.{leb}
 use Rattle.graph.specs.Nodes.{Node, go, branch, ret, stop, Action, const, op, input, output, Operand}
 use Rattle.graph.specs.Accepted.{ActionIn, NodeIn, NoCatch}
 use Rattle.harden.specs.Hardened.{Source, isLeader, crossing, groupAt, prepare, crossingGroup}
+use Rattle.harden.proofs.Crossings.{same-sign}
 use Rattle.bench.specs.Words.{operate, compare}
 use Rattle.bench.specs.Steps.{Machine, going, ended, at, get, operandOf, act, branchTo, counted, stopped, unless}
 use Rattle.bench.specs.Runs.{next}
@@ -21,7 +22,6 @@ use Rattle.bench.specs.declared.Outcome.{Outcome}
 use Rattle.bench.specs.declared.Outcome.the-variants.{Returned, Full}
 use Rattle.swift.specs.Demand.{Trial, plain, hardened, hardenedGraph, stopping}
 use Rattle.swift.proofs.Rows.{own-row, extra-row, extraOf}
-use Rattle.swift.proofs.Blocks.{same-sign}
 use Rattle.swift.proofs.Rounds.{step-at}
 use Rattle.swift.proofs.Roles.{Accepted, gsr, signOf, checkFor, Along, AtSource, BranchAt, SourceStep, HardenedStep, Moved, Departs, walks, jumps, tests, ends, stops}
 use Rattle.swift.proofs.Stepping.{fork, get-along, test-along, both-along, branch-row, update-row, check-row, way-from}
@@ -117,7 +117,7 @@ module _ (t : Trial) (ok : Accepted (t .source)) where
           along = to;
           inside = rw at-l l<;
           node = at-l′ ∙ sym at-l;
-          signed = signed ∙ sym (same-sign s (ok .in-order) n l action is (here .inside) inner (ok .path-short l l<)) ∙ ap (signOf t) (sym at-l);
+          signed = signed ∙ sym (same-sign s (ok .in-order) (ok .path-short) n l action is (here .inside) inner) ∙ ap (signOf t) (sym at-l);
         })
     arrive action l is l< true c σ′ m′ source hard moved to at-l at-l′ signed =
         let e = groupAt s n in

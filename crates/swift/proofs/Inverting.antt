@@ -17,12 +17,12 @@ use Rattle.bench.specs.Steps.{Machine, going, ended, Progress, at, start, get, 
 use Rattle.bench.specs.Runs.{next, after, runOf}
 use Rattle.bench.specs.declared.Fault.the-variants.{Undisturbed, Inverted}
 use Rattle.bench.specs.declared.Outcome.the-variants.{Caught}
-use Rattle.harden.proofs.Rows.{own}
+use Rattle.harden.proofs.Rows.{own, group-order, group-above}
+use Rattle.harden.proofs.Crossings.{sign-apart, targets-lead}
 use Rattle.bench.proofs.Rounds.{after-add, after-more, after-front, ended-stays}
 use Rattle.bench.proofs.Faults.{unreached-after}
 use Rattle.swift.specs.Demand.{Trial, hardened, hardenedGraph, hardenedRun, Executes, Quiet, soon, CaughtSoon, Unchanged, TestOf, first, again, OneTarget, Answered}
-use Rattle.swift.proofs.Rows.{own-row, first-row, catch-row, extraOf, group-order, group-above}
-use Rattle.swift.proofs.Blocks.{sign-apart, targets-lead}
+use Rattle.swift.proofs.Rows.{own-row, first-row, catch-row, extraOf}
 use Rattle.swift.proofs.Rounds.{step-at, between, past-place, inverted-step}
 use Rattle.swift.proofs.Roles.{Accepted, gsr, rts, signOf, checkFor, AtSource, Checking, Doubling, BranchAt, side, HardenedStep}
 use Rattle.swift.proofs.Stepping.{branch-in, branch-row, prepare-row, update-row, check-row, doubled-row, way-along, test-along, set-along, both-along, set-same, gsr-kept, fork, way-from, check-goes, update-goes, prepare-goes, double-goes}

@@ -1,7 +1,6 @@
 -- Demand 3, step by step, then in terms of what the functions promise, and what follows from it for the score.
 pub mod Xor
 pub mod Rows
-pub mod Blocks
 pub mod Rounds
 pub mod Roles
 pub mod Stepping
@@ -11,6 +10,5 @@ pub mod Standing
 pub mod Inverting
 pub mod Budgets
 pub mod Scores
-pub mod Runnable
 pub mod Promised
 pub mod Unique

@@ -15,6 +15,9 @@ use Rattle.graph.specs.Checks.{sourceCheck}
 use Rattle.graph.proofs.Facts.{source-facts, path-short, source-runnable}
 use Rattle.harden.specs.Blocks.{Plan, onePlusRank}
 use Rattle.harden.specs.Hardened.{Source, hardenedCount, hardenedTable, sourceOf, hardenAnswer, hardenOutput}
+use Rattle.harden.specs.Edges.{Distinct}
+use Rattle.harden.proofs.Ranks.{one-plus-distinct}
+use Rattle.harden.proofs.Runnable.{hardened-runnable}
 use Rattle.bench.specs.Steps.{ended}
 use Rattle.bench.specs.Runs.{settled, runOf, mostSteps, runAnswer}
 use Rattle.bench.specs.Campaigns.{classAt, scoreBelow, scoreOf, campaignAnswer, harmless, caught}
@@ -23,13 +26,12 @@ use Rattle.bench.specs.declared.Fault.the-variants.{Undisturbed, Inverted}
 use Rattle.bench.specs.declared.Outcome.{Outcome}
 use Rattle.bench.specs.declared.Score.{Score}
 use Rattle.bench.proofs.Faults.{unreached}
-use Rattle.swift.specs.Demand.{Distinct, Trial, hardened, hardenedGraph, sourceRun, hardenedRun, hardenedSteps, beside, Follows, Executes, Answered, AnsweredWithin, Returns, TestAt, Covered}
+use Rattle.swift.specs.Demand.{Trial, hardened, hardenedGraph, sourceRun, hardenedRun, hardenedSteps, beside, Follows, Executes, Answered, AnsweredWithin, Returns, TestAt, Covered}
 use Rattle.swift.proofs.Roles.{Accepted}
 use Rattle.swift.proofs.Following.{follows}
 use Rattle.swift.proofs.Inverting.{answered}
 use Rattle.swift.proofs.Budgets.{ends-beside, answered-within}
 use Rattle.swift.proofs.Scores.{classes, covered}
-use Rattle.swift.proofs.Runnable.{hardened-runnable}
 
 -- a place that the undisturbed run never reaches changes nothing about what `run` answers, of any graph
 pub never-reached : (registers nodes entry : ℕ) (table inputs : List ℕ) (room budget place : ℕ)
@@ -63,10 +65,6 @@ module _ (plan : Plan) (distinct : Distinct plan) (registers nodes entry : ℕ) 
   pub planned-answered : (place rounds : ℕ) → Executes planned place rounds → Answered planned place rounds
   planned-answered place rounds x = answered planned (accepted-source plan distinct registers nodes entry table accepted) place rounds x
 
--- 1 plus rank is such a plan
-pub ranks-distinct : Distinct onePlusRank
-ranks-distinct a b a< b< e = omega arith
-
 module _ (registers nodes entry : ℕ) (table out inputs : List ℕ) (room : ℕ) where
   -- the source in the table, hardened into the buffer
   abbrev pub source : Source
@@ -81,7 +79,7 @@ module _ (registers nodes entry : ℕ) (table out inputs : List ℕ) (room : ℕ
   module _ (accepted : sourceCheck registers nodes entry table ≡ given tt) (fits : 6 * H ≤ length out) where
     ok : Accepted source
     unfolding sourceOf
-    ok = accepted-source onePlusRank ranks-distinct registers nodes entry table accepted
+    ok = accepted-source onePlusRank one-plus-distinct registers nodes entry table accepted
 
     -- ---- the public answers
 

@@ -10,13 +10,14 @@ use Rattle.graph.specs.Nodes.{Node, branch, Operand}
 use Rattle.graph.specs.Paths.{PathIn}
 use Rattle.graph.specs.Accepted.{SourceGraph}
 use Rattle.harden.specs.Hardened.{Source, sign, crossing, groupAt, prepare, update, check}
+use Rattle.harden.specs.Edges.{Distinct}
 use Rattle.bench.specs.Words.{compare}
 use Rattle.bench.specs.Steps.{Machine, going, ended, Progress, at, get, operandOf, counted}
 use Rattle.bench.specs.Runs.{next}
 use Rattle.bench.specs.declared.Fault.the-variants.{Undisturbed}
 use Rattle.bench.specs.declared.Outcome.{Outcome}
 use Rattle.bench.specs.declared.Outcome.the-variants.{Returned}
-use Rattle.swift.specs.Demand.{Trial, Distinct, plain, hardened, hardenedGraph, stopping}
+use Rattle.swift.specs.Demand.{Trial, plain, hardened, hardenedGraph, stopping}
 
 -- what the theorems suppose of a source: accepted, so that a path of no more than N edges reaches each node, and a plan with
 -- distinct signatures

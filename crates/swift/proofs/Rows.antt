@@ -1,41 +1,16 @@
 -- The rows of the hardened graph as it is run: the source's own, node N, the catch, and the groups of extra nodes.
 -- Assumes nothing.
 use mathlib.Core.Path.{_≡_, _∙_}
-use mathlib.Core.Logic.{⊎-elim}
-use Prim.Native.Nat.{ℕ, zero, suc, _+_, _≤_, _<_}
-use native.Mathlib.Nat.{eq-or-lt-of-le, le-of-suc-le-suc, not-suc-le-zero}
+use Prim.Native.Nat.{ℕ, _+_, _<_}
 use native.Mathlib.Omega.{arith}
 use lib.ListN.{getD}
 use Rattle.graph.specs.Nodes.{stop}
-use Rattle.harden.specs.Hardened.{Source, extra, crossing, extraBelow, groupAt, firstRow, rowAt, hardenedCount}
-use Rattle.harden.proofs.Rows.{own, group, row-own, row-first, row-catch, row-group, hardened-node}
+use Rattle.harden.specs.Hardened.{Source, extra, crossing, groupAt, firstRow, rowAt, hardenedCount}
+use Rattle.harden.proofs.Rows.{own, group, group-in, source-in, row-own, row-first, row-catch, row-group, hardened-node}
 use Rattle.swift.specs.Demand.{Trial, hardenedGraph}
 
 abbrev pub extraOf : Source → ℕ → ℕ
 extraOf s n = extra (crossing s n) (s .graph n)
-
--- the groups stand behind the catch, and one behind another
-extra-below : (s : Source) (n k : ℕ) → n < k → extraBelow s n + extraOf s n ≤ extraBelow s k
-unfolding extraBelow
-extra-below s n zero h = absurd (not-suc-le-zero h)
-extra-below s n (suc k) h =
-    ⊎-elim (λ e. rw e (omega arith)) (λ l. omega (arith, extra-below s n k l)) (eq-or-lt-of-le (le-of-suc-le-suc h))
-
-pub group-order : (s : Source) (n k : ℕ) → n < k → groupAt s n + extraOf s n ≤ groupAt s k
-unfolding groupAt
-group-order s n k h = omega (arith, extra-below s n k h)
-
-pub group-above : (s : Source) (n : ℕ) → s .nodes + 2 ≤ groupAt s n
-unfolding groupAt
-group-above s n = omega arith
-
-pub group-in : (s : Source) (n : ℕ) → n < s .nodes → groupAt s n + extraOf s n ≤ hardenedCount s
-unfolding hardenedCount
-group-in s n h = group-order s n (s .nodes) h
-
-pub source-in : (s : Source) → s .nodes + 2 ≤ hardenedCount s
-unfolding hardenedCount
-source-in s = group-above s (s .nodes)
 
 module _ (t : Trial) where
   abbrev s : Source

@@ -10,7 +10,6 @@ use mathlib.Core.List.{List, _++_}
 use lib.ListN.{take}
 use lib.Dec.{ltb}
 use Rattle.graph.specs.Nodes.{Node, branch, Operand, nodeAt}
-use Rattle.harden.specs.Blocks.{Plan}
 use Rattle.harden.specs.Hardened.{Source, isBranch, crossing, groupAt, hardenedTable}
 use Rattle.bench.specs.Steps.{Machine, Setting, Status, going, ended, Progress}
 use Rattle.bench.specs.Runs.{runOf}
@@ -18,10 +17,6 @@ use Rattle.bench.specs.declared.Fault.{Fault}
 use Rattle.bench.specs.declared.Fault.the-variants.{Undisturbed, Inverted}
 use Rattle.bench.specs.declared.Outcome.the-variants.{Returned, Caught, Spent, Full}
 use Rattle.bench.specs.declared.Score.{Score}
-
--- a plan that gives no two ranks one signature
-abbrev pub Distinct : Plan → Type 0
-Distinct plan = (a b : ℕ) → a < 256 → b < 256 → plan a ≡ plan b → a ≡ b
 
 -- a source, whatever words stand behind its hardened table, the input words, and the event room
 pub record Trial : Type 0 where
