@@ -20,7 +20,7 @@ use Rattle.harden.specs.declared.Hardening.{Hardening}
 use Rattle.bench.specs.Campaigns.{campaignOf}
 use Rattle.bench.specs.declared.Fault.{Fault}
 use Rattle.bench.specs.declared.CampaignAnswer.{CampaignAnswer}
-use Rattle.text.specs.Decimals.{decimal, spaced, decimalOf}
+use Rattle.text.specs.Decimals.{decimalOf}
 use Rattle.text.specs.Places.{Wrote}
 use Rattle.text.specs.declared.Decimal.{Decimal}
 use Rattle.desk.specs.Programs.{Print, output, complaint, runProgram, scoreProgram, Shown}
@@ -46,63 +46,46 @@ caseOf value refusal (given a) = value a
 caseOf value refusal (refused number place) = refusal number place
 
 pub readingOf-injective : Injective readingOf
-readingOf-injective = taken-back readingOf (caseOf (λ r. Number.Value (r .value) (r .next)) Number.Refused) undone
-  where
-    undone : (r : Number) → caseOf (λ r. Number.Value (r .value) (r .next)) Number.Refused (readingOf r) ≡ r
-    undone (Number.Value v n) = refl
-    undone (Number.Refused number place) = refl
+readingOf-injective =
+    taken-back readingOf (caseOf (λ r. Number.Value (r .value) (r .next)) Number.Refused)
+    λ r. elim r [ Number.Value v next ↦ refl | Number.Refused number place ↦ refl ]
 
 pub checkOf-injective : Injective checkOf
-checkOf-injective = taken-back checkOf (caseOf (λ _. Check.Accepted) Check.Refused) undone
-  where
-    undone : (r : Check) → caseOf (λ _. Check.Accepted) Check.Refused (checkOf r) ≡ r
-    undone Check.Accepted = refl
-    undone (Check.Refused number place) = refl
-
-pub targetsOf-injective : Injective targetsOf
-targetsOf-injective = taken-back targetsOf back undone
-  where
-    back : List ℕ → Successors
-    back [] = Successors.None
-    back (next ∷ []) = Successors.One next
-    back (then ∷ else ∷ more) = Successors.Two then else
-
-    undone : (r : Successors) → back (targetsOf r) ≡ r
-    undone Successors.None = refl
-    undone (Successors.One next) = refl
-    undone (Successors.Two then else) = refl
+checkOf-injective =
+    taken-back checkOf (caseOf (λ _. Check.Accepted) Check.Refused)
+    λ r. elim r [ Check.Accepted ↦ refl | Check.Refused number place ↦ refl ]
 
 pub readOf-injective : Injective readOf
-readOf-injective = taken-back readOf (caseOf Verdict.Graph Verdict.Refused) undone
-  where
-    undone : (r : Verdict) → caseOf Verdict.Graph Verdict.Refused (readOf r) ≡ r
-    undone (Verdict.Graph header) = refl
-    undone (Verdict.Refused number place) = refl
+readOf-injective =
+    taken-back readOf (caseOf Verdict.Graph Verdict.Refused)
+    λ r. elim r [ Verdict.Graph header ↦ refl | Verdict.Refused number place ↦ refl ]
 
 pub hardeningOf-injective : Injective hardeningOf
-hardeningOf-injective = taken-back hardeningOf (caseOf Hardening.Hardened Hardening.Refused) undone
-  where
-    undone : (r : Hardening) → caseOf Hardening.Hardened Hardening.Refused (hardeningOf r) ≡ r
-    undone (Hardening.Hardened header) = refl
-    undone (Hardening.Refused number place) = refl
+hardeningOf-injective =
+    taken-back hardeningOf (caseOf Hardening.Hardened Hardening.Refused)
+    λ r. elim r [ Hardening.Hardened header ↦ refl | Hardening.Refused number place ↦ refl ]
 
 pub campaignOf-injective : Injective campaignOf
-campaignOf-injective = taken-back campaignOf (caseOf CampaignAnswer.Scored CampaignAnswer.Refused) undone
-  where
-    undone : (r : CampaignAnswer) → caseOf CampaignAnswer.Scored CampaignAnswer.Refused (campaignOf r) ≡ r
-    undone (CampaignAnswer.Scored score) = refl
-    undone (CampaignAnswer.Refused number place) = refl
+campaignOf-injective =
+    taken-back campaignOf (caseOf CampaignAnswer.Scored CampaignAnswer.Refused)
+    λ r. elim r [ CampaignAnswer.Scored score ↦ refl | CampaignAnswer.Refused number place ↦ refl ]
+
+abbrev successors : List ℕ → Successors
+successors [] = Successors.None
+successors (next ∷ []) = Successors.One next
+successors (then ∷ else ∷ more) = Successors.Two then else
+
+pub targetsOf-injective : Injective targetsOf
+targetsOf-injective =
+    taken-back targetsOf successors
+    λ r. elim r [ Successors.None ↦ refl | Successors.One next ↦ refl | Successors.Two then else ↦ refl ]
+
+abbrev decimal : Option ℕ → Decimal
+decimal (some n) = Decimal.Value n
+decimal none = Decimal.Other
 
 pub decimalOf-injective : Injective decimalOf
-decimalOf-injective = taken-back decimalOf back undone
-  where
-    back : Option ℕ → Decimal
-    back (some n) = Decimal.Value n
-    back none = Decimal.Other
-
-    undone : (r : Decimal) → back (decimalOf r) ≡ r
-    undone (Decimal.Value n) = refl
-    undone Decimal.Other = refl
+decimalOf-injective = taken-back decimalOf decimal λ r. elim r [ Decimal.Value n ↦ refl | Decimal.Other ↦ refl ]
 
 -- ---- what is written
 

@@ -1,4 +1,4 @@
--- Document 01, "One listing, whole" and "Runs to agree on": the listing, and P1 to P12 as one table, proved by one statement.
+-- Document 01, "Runs to agree on": P1 to P12 as one table, proved from the definitions by one statement.
 -- Assumes nothing.
 use Prim.Native.Nat.{ℕ}
 use mathlib.Core.Path.{_≡_, refl}
@@ -152,29 +152,3 @@ table =
 pub all-agreed : map (λ c. c .found) table ≡ map (λ c. c .agreed) table
 unfolding table graphA oneTarget oneRet oneLoop nodeOf nodeAt layouts roleAt followed reachedIn reached faultAt wordsFrom tableCheck unmarkedFrom reachCheck runnableCheck sourceCheck edgesInto branchTo leader predecessor headIn blockHead rank signature isLeader sign crossing extraBelow groupAt sourceRows groupRows firstRow hardenedRows hardenedCount hardenedTable sourceOf hardenAnswer operate compare start step next after runOf runAnswer classAt scoreBelow campaignAnswer
 all-agreed = refl
-
--- the listing's words, row by row
-pub listing : tableFor graphA ≡
-    5 ∷ 0 ∷ 1 ∷ 0 ∷ 0 ∷ 0
-    ∷ 4 ∷ 0 ∷ 0 ∷ 7 ∷ 7 ∷ 8
-    ∷ 6 ∷ 1 ∷ 0 ∷ 14 ∷ 0 ∷ 0
-    ∷ 1 ∷ 1 ∷ 9 ∷ 17 ∷ 0 ∷ 0
-    ∷ 7 ∷ 1 ∷ 0 ∷ 0 ∷ 0 ∷ 0
-    ∷ 1 ∷ 2 ∷ 1 ∷ 0 ∷ 0 ∷ 0
-    ∷ 8 ∷ 0 ∷ 0 ∷ 0 ∷ 0 ∷ 0
-    ∷ 1 ∷ 3 ∷ 3 ∷ 9 ∷ 0 ∷ 0
-    ∷ 1 ∷ 3 ∷ 2 ∷ 9 ∷ 0 ∷ 0
-    ∷ 4 ∷ 0 ∷ 0 ∷ 7 ∷ 10 ∷ 12
-    ∷ 2 ∷ 4 ∷ 2 ∷ 2 ∷ 3 ∷ 11
-    ∷ 4 ∷ 1 ∷ 2 ∷ 2 ∷ 6 ∷ 2
-    ∷ 2 ∷ 4 ∷ 2 ∷ 2 ∷ 3 ∷ 13
-    ∷ 4 ∷ 1 ∷ 2 ∷ 3 ∷ 6 ∷ 3
-    ∷ 1 ∷ 3 ∷ 6 ∷ 15 ∷ 0 ∷ 0
-    ∷ 2 ∷ 4 ∷ 2 ∷ 2 ∷ 3 ∷ 16
-    ∷ 4 ∷ 1 ∷ 2 ∷ 4 ∷ 6 ∷ 4
-    ∷ 1 ∷ 3 ∷ 7 ∷ 18 ∷ 0 ∷ 0
-    ∷ 2 ∷ 4 ∷ 2 ∷ 2 ∷ 3 ∷ 19
-    ∷ 4 ∷ 1 ∷ 2 ∷ 4 ∷ 6 ∷ 4
-    ∷ []
-unfolding graphA nodeOf nodeAt edgesInto branchTo leader predecessor headIn blockHead rank signature isLeader sign crossing extraBelow groupAt sourceRows groupRows firstRow hardenedRows hardenedTable sourceOf
-listing = refl
