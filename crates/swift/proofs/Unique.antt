@@ -70,22 +70,24 @@ campaignOf-injective =
     taken-back campaignOf (caseOf CampaignAnswer.Scored CampaignAnswer.Refused)
     λ r. elim r [ CampaignAnswer.Scored score ↦ refl | CampaignAnswer.Refused number place ↦ refl ]
 
-abbrev successors : List ℕ → Successors
-successors [] = Successors.None
-successors (next ∷ []) = Successors.One next
-successors (then ∷ else ∷ more) = Successors.Two then else
+-- the case for a list of targets
+abbrev casesFor : List ℕ → Successors
+casesFor [] = Successors.None
+casesFor (next ∷ []) = Successors.One next
+casesFor (then ∷ else ∷ more) = Successors.Two then else
 
 pub targetsOf-injective : Injective targetsOf
 targetsOf-injective =
-    taken-back targetsOf successors
+    taken-back targetsOf casesFor
     λ r. elim r [ Successors.None ↦ refl | Successors.One next ↦ refl | Successors.Two then else ↦ refl ]
 
-abbrev decimal : Option ℕ → Decimal
-decimal (some n) = Decimal.Value n
-decimal none = Decimal.Other
+-- the case for a number, or for none
+abbrev caseFor : Option ℕ → Decimal
+caseFor (some n) = Decimal.Value n
+caseFor none = Decimal.Other
 
 pub decimalOf-injective : Injective decimalOf
-decimalOf-injective = taken-back decimalOf decimal λ r. elim r [ Decimal.Value n ↦ refl | Decimal.Other ↦ refl ]
+decimalOf-injective = taken-back decimalOf caseFor λ r. elim r [ Decimal.Value n ↦ refl | Decimal.Other ↦ refl ]
 
 -- ---- what is written
 

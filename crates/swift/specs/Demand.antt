@@ -1,6 +1,7 @@
 -- Demand 3: for every accepted source and input, the undisturbed hardened run stands after 1 + s + 4b + 3x steps as the
 -- source after s; and one inverted branch is caught within five further steps, or, at a doubled test whose two targets are
--- one node, has changed nothing two steps later. Here is what each of these words means; proofs/ has the theorems.
+-- one node, has changed nothing two steps later. Here is what each of these words means, over the runs that `run` promises;
+-- proofs/Promised.antt has the theorems, and docs/DEMAND3.md goes through them.
 -- Assumes nothing.
 use Prim.Native.Nat.{ℕ, zero, suc, _+_, _*_, _≤_, _<_}
 use mathlib.Core.Path.{_≡_}
@@ -18,6 +19,8 @@ use Rattle.bench.specs.declared.Fault.the-variants.{Undisturbed, Inverted}
 use Rattle.bench.specs.declared.Outcome.the-variants.{Returned, Caught, Spent, Full}
 use Rattle.bench.specs.declared.Score.{Score}
 
+-- ---- the two runs
+
 -- a source, whatever words stand behind its hardened table, the input words, and the event room
 pub record Trial : Type 0 where
   pub source : Source
@@ -25,7 +28,7 @@ pub record Trial : Type 0 where
   pub inputs : List ℕ
   pub room : ℕ
 
--- the source, and its hardened table, to be run
+-- what is run: the source's nodes, or those of its hardened table, with the same inputs and room
 abbrev pub plain : Trial → Setting
 plain t = record { graph = t .source .graph; inputs = t .inputs; room = t .room }
 
@@ -35,14 +38,16 @@ hardenedGraph t n = nodeAt (hardenedTable (t .source) ++ t .behind) n
 abbrev pub hardened : Trial → Setting
 hardened t = record { graph = hardenedGraph t; inputs = t .inputs; room = t .room }
 
--- the runs after so many rounds: a round is a step, until the run has ended
+-- the two runs after so many rounds: a round is a step, until the run has ended; the hardened graph's entry is node N
 unfoldable pub sourceRun : Trial → ℕ → Progress
 sourceRun t rounds = runOf (plain t) Undisturbed (t .source .entry) rounds
 
 unfoldable pub hardenedRun : Trial → Fault → ℕ → Progress
 hardenedRun t fault rounds = runOf (hardened t) fault (t .source .nodes) rounds
 
--- the crossing jumps among the source's first rounds: steps from a node whose edge crosses
+-- ---- undisturbed
+
+-- x: the steps from a node whose edge crosses, among the source's first rounds
 unfoldable pub crossings : Trial → ℕ → ℕ
 crossings t zero = 0
 crossings t (suc rounds) =
@@ -50,17 +55,17 @@ crossings t (suc rounds) =
     let then = sourceRun t (suc rounds) .machine in
     crossings t rounds + cond (crossing (t .source) (now .node) && ltb (now .steps) (then .steps)) 1 0
 
--- after s source steps with b branches and x crossing jumps
+-- the hardened steps after s source steps with b branches and x crossing jumps
 abbrev pub when : ℕ → ℕ → ℕ → ℕ
 when s b x = 1 + s + 4 * b + 3 * x
 
--- the steps of the hardened run that answer to the source's first rounds
+-- the same, with s, b and x those of the source's first rounds
 unfoldable pub hardenedSteps : Trial → ℕ → ℕ
 hardenedSteps t rounds =
     let m = sourceRun t rounds .machine in
     when (m .steps) (m .branches) (crossings t rounds)
 
--- what stops a run before a step is seen in one round more, which is no step
+-- Full stops a run before a step, so it is seen in one round more, which is no step
 abbrev pub stopping : Status → ℕ
 stopping going = 0
 stopping (ended (Returned value)) = 0
@@ -85,27 +90,30 @@ pub record Follows (t : Trial) (rounds : ℕ) : Type 0 where
   pub agree : Agree (t .source .registers) (beside t rounds .machine) (sourceRun t rounds .machine)
   pub alike : beside t rounds .status ≡ sourceRun t rounds .status
 
+-- ---- one branch inverted
+
 -- after these rounds the undisturbed hardened run executes a branch, whose place among the branches executed is this
 pub record Executes (t : Trial) (place rounds : ℕ) : Type 0 where
   pub under-way : hardenedRun t Undisturbed rounds .status ≡ going
   pub at-branch : isBranch (hardenedGraph t (hardenedRun t Undisturbed rounds .machine .node)) ≡ true
   pub this-place : hardenedRun t Undisturbed rounds .machine .branches ≡ place
 
--- the rounds from the branch on, up to a later one, make no read and no event
+-- from the branch up to a later round the disturbed run makes no read and no event
 pub record Quiet (t : Trial) (place rounds later : ℕ) : Type 0 where
   pub no-read : (k : ℕ) → rounds ≤ k → k ≤ later → hardenedRun t (Inverted place) k .machine .reads ≡ hardenedRun t Undisturbed rounds .machine .reads
   pub no-event : (k : ℕ) → rounds ≤ k → k ≤ later
       → hardenedRun t (Inverted place) k .machine .events ≡ hardenedRun t Undisturbed rounds .machine .events
 
--- caught by a later round, and no read or event in between
+-- the disturbed run is caught by a later round, and no read or event in between
 pub record CaughtBy (t : Trial) (place rounds later : ℕ) : Type 0 where
   pub is-caught : hardenedRun t (Inverted place) later .status ≡ ended Caught
   pub quiet : Quiet t place rounds later
 
--- caught within five further steps
+-- further steps: those after the inverted one
 abbrev pub soon : ℕ
 soon = 5
 
+-- caught within five further steps
 abbrev pub CaughtSoon : Trial → ℕ → ℕ → Type 0
 CaughtSoon t place rounds = CaughtBy t place rounds (rounds + 1 + soon)
 
@@ -131,14 +139,17 @@ pub record OneTarget (s : Source) (i : ℕ) : Type 0 where
   pub is-branch : s .graph node ≡ branch comparison left right then else
   pub one-node : then ≡ else
 
--- the second half of demand 3, for the branch that the undisturbed hardened run executes in the round after these
+-- the second half of demand 3, for the branch that the undisturbed hardened run executes in the round after these: the exception
+-- holds just where it is named, and everywhere else the run is caught
 abbrev pub Answered : Trial → ℕ → ℕ → Type 0
 Answered t place rounds =
     let test = OneTarget (t .source) (hardenedRun t Undisturbed rounds .machine .node) in
     (test × Unchanged t place rounds) ⊎ ((test → ⊥) × CaughtSoon t place rounds)
 
--- the same within a budget: with two steps left after the inverted branch the run is the undisturbed one, or with five left it
--- ends caught
+-- ---- budgets and the score
+
+-- the same of the runs with a budget: with two steps left after the inverted branch the run is the undisturbed one, or with five
+-- left it ends caught
 abbrev pub AnsweredWithin : Trial → ℕ → ℕ → ℕ → Type 0
 AnsweredWithin t place rounds budget =
     let test = OneTarget (t .source) (hardenedRun t Undisturbed rounds .machine .node) in
