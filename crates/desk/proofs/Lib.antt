@@ -1,5 +1,6 @@
 -- Laws of the arguments, of the texts and of what they are made of.
 mod Answers
 mod Cells
+pub mod Printing
 mod Rows
 mod Shows

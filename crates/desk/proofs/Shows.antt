@@ -17,7 +17,7 @@ use Rattle.desk.specs.declared.Words.{Words}
 use Rattle.desk.specs.declared.Words.the-variants.{All, Bad}
 use Rattle.desk.specs.Arguments.{RoomIn, wordsIn, wordsOf, WordsFew, mostRoom, mostWords}
 use Rattle.desk.specs.Lines.{complaintLine}
-use Rattle.desk.specs.Programs.{withWords, Shown}
+use Rattle.desk.specs.Programs.{withWords, Shown, printed, complained}
 use Rattle.desk.proofs.Answers.{space-length, put-front, wrote-as}
 use Rattle.desk.proofs.Cells.{words-length}
 
@@ -35,11 +35,11 @@ module _ (cells : List ℕ) (from : ℕ) (w : Words) (e : w ≡ wordsIn cells fr
   words-shown text count space last is zeros put-is wrote =
       let front : take count last ≡ wordsOf cells from count =
       ap (take count) put-is ∙ put-front space (wordsOf cells from count) count mostWords zeros (words-length cells from count) (few-words count is) in
-      rw (sym e, is) (wrote-as (ap text front) wrote)
+      rw (sym e, is) (printed (wrote-as (ap text front) wrote))
 
   pub words-wrong : (text : List ℕ → List ℕ) (wanted : Wanted) {l m : List ℕ} {p : ℕ} → w ≡ Bad wanted → Wrote l 0 (complaintLine wanted) m p
       → Shown l (withWords cells from (wordsIn cells from) text) m (Complaint p)
-  words-wrong text wanted is wrote = rw (sym e, is) wrote
+  words-wrong text wanted is wrote = rw (sym e, is) (complained wrote)
 
 -- settings that are ready have no more room than that
 pub room-in : (settings : Settings) (hardened : Bool) (budget room : ℕ) → RoomIn settings → settings ≡ Ready hardened budget room → room ≤ mostRoom

@@ -123,8 +123,6 @@ unfoldable pub scoreProgram : List ℕ → List ℕ → Print
 scoreProgram cells bytes = scoreWith cells (settingsOf cells) bytes
 
 -- what a program leaves in its text, and how long it says that is, for each case
-abbrev pub Shown : List ℕ → Print → List ℕ → Printed → Type 0
-Shown before (output text) after (Output size) = Wrote before 0 text after size
-Shown before (output text) after (Complaint size) = ⊥
-Shown before (complaint text) after (Output size) = ⊥
-Shown before (complaint text) after (Complaint size) = Wrote before 0 text after size
+pub data Shown (before : List ℕ) : Print → List ℕ → Printed → Type 0 where
+  printed : {text after : List ℕ} {size : ℕ} → Wrote before 0 text after size → Shown before (output text) after (Output size)
+  complained : {text after : List ℕ} {size : ℕ} → Wrote before 0 text after size → Shown before (complaint text) after (Complaint size)

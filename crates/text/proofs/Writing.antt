@@ -129,3 +129,9 @@ wrote-none l m at p xs w =
     let inside : placeAfter (length l) at (length xs) ≤ length l = place-inside (length l) at (length xs) in
     let h : p + 0 ≤ length m = omega (arith, w .place-is, wrote-length l m at p xs w) in
     wrote-nil m p p (sym (fits-place (length m) p 0 h ∙ add-zero p))
+
+-- the place after a text lies in the buffer
+pub wrote-inside : (l m : List ℕ) (at p : ℕ) (xs : List ℕ) → Wrote l at xs m p → p ≤ length m
+wrote-inside l m at p xs w =
+    let inside : placeAfter (length l) at (length xs) ≤ length l = place-inside (length l) at (length xs) in
+    omega (arith, w .place-is, wrote-length l m at p xs w)

@@ -1,7 +1,7 @@
 -- `desk::score` meets its contract.
 -- Assumes nothing.
 use mathlib.Core.Path.{sym}
-use Rattle.desk.specs.Programs.{scoreProgram}
+use Rattle.desk.specs.Programs.{scoreProgram, complained}
 use Rattle.desk.proofs.Shows.{room-in}
 use borrow.Author.Needs.{needs}
 use Rattle.desk.proofs.score.Statement.{statement}
@@ -34,7 +34,7 @@ same-length-2 c = search needs
 
 returns-2 : tie.Need-returns-2
 unfolding scoreProgram
-returns-2 c = rw (sym (c .before .before .before .before .before .before .before .settings .ensures .0), c .before .before .before .before .before .wanted .given .1) (c .before .before .complaint .ensures)
+returns-2 c = rw (sym (c .before .before .before .before .before .before .before .settings .ensures .0), c .before .before .before .before .before .wanted .given .1) (complained (c .before .before .complaint .ensures))
 
 pub score-spec : {M : Type 1} → statement M
 score-spec =

@@ -1,6 +1,7 @@
 -- `desk::programs::run_with` meets its contract.
 -- Assumes nothing.
 use mathlib.Core.Path.{sym}
+use Rattle.desk.specs.Programs.{complained}
 use borrow.Author.Needs.{needs}
 use Rattle.desk.proofs.programs.run_with.Statement.{statement}
 use Rattle.desk.proofs.programs.run_with.Tie as tie
@@ -33,7 +34,7 @@ same-length-2 : tie.Need-same-length-2
 same-length-2 c = search needs
 
 returns-2 : tie.Need-returns-2
-returns-2 c = rw (sym (c .before .before .before .before .before .before .before .argument .ensures), sym (c .before .before .before .before .before .before .fault .ensures), c .before .before .before .before .enum-told .given .1) (c .before .before .complaint .ensures)
+returns-2 c = rw (sym (c .before .before .before .before .before .before .before .argument .ensures), sym (c .before .before .before .before .before .before .fault .ensures), c .before .before .before .before .enum-told .given .1) (complained (c .before .before .complaint .ensures))
 
 pub run-with-spec : {M : Type 1} → statement M
 run-with-spec =
