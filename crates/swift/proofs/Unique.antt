@@ -23,9 +23,9 @@ use Rattle.bench.specs.declared.CampaignAnswer.{CampaignAnswer}
 use Rattle.text.specs.Decimals.{decimalOf}
 use Rattle.text.specs.Places.{Wrote}
 use Rattle.text.specs.declared.Decimal.{Decimal}
-use Rattle.desk.specs.Programs.{Print, output, complaint, runProgram, scoreProgram, Shown}
+use Rattle.desk.specs.Programs.{Print, Shown, printed, complained}
 use Rattle.desk.specs.declared.Printed.{Printed}
-use Rattle.swift.specs.Promises.{OneAnswer, OneBuffer, TwoBuffers, Word, NumberAt, Runnable, Source, RoleAt, FaultOf, Targets, CheckRunnable, CheckSource, Read, Harden, Run, Campaign, Byte, Piece, NumberText, AfterSpace, Spaced, Value, Listed, RunShown, ScoreShown}
+use Rattle.swift.specs.Promises.{OneAnswer, OneBuffer, TwoBuffers, Word, NumberAt, Runnable, Source, RoleAt, FaultOf, Targets, CheckRunnable, CheckSource, Read, Harden, Run, Campaign, Byte, Piece, NumberText, AfterSpace, Spaced, Value, Listed, RunShown, ScoreShown, FileSpace, CellSpace, TextSpace}
 
 -- ---- two answers of one meaning are one
 
@@ -96,13 +96,9 @@ wrote-one : {before text : List ℕ} {at r s : ℕ} {x y : List ℕ} → Wrote b
 wrote-one p q = (same (p .place-is) (q .place-is), same (p .buffer-is) (q .buffer-is))
 
 -- the output or the complaint of a program
-shown-one : (before : List ℕ) (print : Print) → OneBuffer (λ r x. Shown before print x r)
-shown-one before (output text) (Printed.Output m) (Printed.Output n) x y p q = let (sizes, texts) = wrote-one p q in (ap Printed.Output sizes, texts)
-shown-one before (output text) (Printed.Output m) (Printed.Complaint n) x y p q = absurd q
-shown-one before (output text) (Printed.Complaint m) s x y p q = absurd p
-shown-one before (complaint text) (Printed.Output m) s x y p q = absurd p
-shown-one before (complaint text) (Printed.Complaint m) (Printed.Output n) x y p q = absurd q
-shown-one before (complaint text) (Printed.Complaint m) (Printed.Complaint n) x y p q = let (sizes, texts) = wrote-one p q in (ap Printed.Complaint sizes, texts)
+shown-one : {before x y : List ℕ} {print : Print} {r s : Printed} → Shown before print x r → Shown before print y s → (r ≡ s) × (x ≡ y)
+shown-one (printed p) (printed q) = let (sizes, texts) = wrote-one p q in (ap Printed.Output sizes, texts)
+shown-one (complained p) (complained q) = let (sizes, texts) = wrote-one p q in (ap Printed.Complaint sizes, texts)
 
 -- ---- words
 
@@ -184,7 +180,18 @@ unique-list bytes text r s x y p q = wrote-one p q
 
 module _ (cells bytes text : List ℕ) where
   pub unique-run-shown : OneBuffer (RunShown cells bytes text)
-  unique-run-shown r s x y p q = shown-one text (runProgram cells bytes) r s x y p q
+  unique-run-shown r s x y p q = shown-one p q
 
   pub unique-score-shown : OneBuffer (ScoreShown cells bytes text)
-  unique-score-shown r s x y p q = shown-one text (scoreProgram cells bytes) r s x y p q
+  unique-score-shown r s x y p q = shown-one p q
+
+-- ---- console
+
+pub unique-file-space : OneAnswer FileSpace
+unique-file-space r s p q = same p q
+
+pub unique-cell-space : OneAnswer CellSpace
+unique-cell-space r s p q = same p q
+
+pub unique-text-space : OneAnswer TextSpace
+unique-text-space r s p q = same p q

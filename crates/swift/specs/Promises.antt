@@ -6,7 +6,7 @@
 use Prim.Native.Nat.{ℕ}
 use mathlib.Core.Path.{_≡_}
 use mathlib.Core.List.{List, [], _∷_}
-use lib.ListN.{length, getD}
+use lib.ListN.{length, getD, replicate}
 use Rattle.words.specs.Number.{readingOf, numberAt}
 use Rattle.words.specs.declared.Number.{Number}
 use Rattle.graph.specs.Limits.{runnable, source}
@@ -155,3 +155,17 @@ RunShown cells bytes text r text′ = Shown text (runProgram cells bytes) text�
 -- desk::score
 abbrev pub ScoreShown : List ℕ → List ℕ → List ℕ → Printed → List ℕ → Type 0
 ScoreShown cells bytes text r text′ = Shown text (scoreProgram cells bytes) text′ r
+
+-- ---- console; what `arguments` answers is the operating system's to say, and its promise is only a bound
+
+-- console::file_space
+abbrev pub FileSpace : List ℕ → Type 0
+FileSpace r = r ≡ replicate 32768 0
+
+-- console::cell_space
+abbrev pub CellSpace : List ℕ → Type 0
+CellSpace r = r ≡ replicate 65616 0
+
+-- console::text_space
+abbrev pub TextSpace : List ℕ → Type 0
+TextSpace r = r ≡ replicate 196608 0
