@@ -5,7 +5,6 @@ use mathlib.Core.Bool.{Bool, true, false, cond, _&&_}
 use mathlib.Core.List.{List, [], _∷_, _++_}
 use Prim.Native.Nat.{ℕ, _+_, _-_, _≤_, _<_}
 use native.Mathlib.Omega.{arith}
-use borrow.Author.Tests.{eq-eqb, ne-eqb}
 use lib.Dec.{eqb}
 use lib.ListN.{length, take, drop, length-append}
 use lib.Seq.{length-take-le, take-at, take-append-le}
@@ -127,11 +126,3 @@ module _ (table inputs reference : List ℕ) (total : ℕ) (buffer : List ℕ) (
           let outcome = ap (λ (r : Ended). r .outcome) made in
           c ∙ (rw (prefix-all, count, outcome, whole))
           ∙ sym (class-by value (take total reference) (settled (fork .status)) (fork .machine .events))
-
--- a step that is a branch is tried, another not
-pub tried-none : (branches : ℕ) (score other : Score) → branches ≡ 0 → score ≡ cond (eqb branches 0) score other
-tried-none branches score other e = rw (eq-eqb branches 0 e)
-
-pub tried-one : (branches : ℕ) (score r : Score) (class k : Class) → (branches ≡ 0 → ⊥) → r ≡ tallied class score → class ≡ k
-    → r ≡ cond (eqb branches 0) score (tallied k score)
-tried-one branches score r class k e t c = rw (ne-eqb branches 0 e) (t ∙ ap (λ (k : Class). tallied k score) c)

@@ -2,6 +2,7 @@
 -- Assumes nothing.
 use mathlib.Core.Path.{_≡_, refl, sym, ap, _∙_}
 use mathlib.Core.Bool.{Bool, true, false, cond}
+use mathlib.Core.Logic.{_⊎_, inl, inr}
 use mathlib.Core.List.{List, [], _∷_, _++_}
 use Prim.Native.Nat.{ℕ, zero, suc, _+_, _-_, _*_, _≤_, _<_}
 use native.Mathlib.Nat.{sub-self}
@@ -16,7 +17,7 @@ use Rattle.bench.specs.Words.{compare}
 use Rattle.bench.specs.Steps.{Machine, Setting, Status, going, ended, Progress, at, inverts, flip, step}
 use Rattle.bench.specs.Effects.{comparand, effectOf, effectFrom, eventWords, hasRoom, statusAfter, applied, machineOf}
 use Rattle.bench.specs.Runs.{next, after, settled}
-use Rattle.bench.specs.Ready.{Inside, Ready, settingOf, restOf, endedOf}
+use Rattle.bench.specs.Ready.{Inside, Ready, Halted, Proceeds, settingOf, restOf, endedOf, endedWith}
 use Rattle.bench.proofs.Bounds.{Counts, counts}
 use Rattle.bench.proofs.Effects.{followed, step-effect}
 use Rattle.bench.proofs.Rounds.{after-none, after-more, next-going, ended-stays}
@@ -156,3 +157,40 @@ turn-first s fault buffer state words h =
       count = length-take-le words buffer h;
       holds = sym (put-take buffer words h);
     }
+
+module _ (table inputs : List ℕ) (room : ℕ) (fault : Fault) (from : State) (words : ℕ) (buffer : List ℕ) (budget until : ℕ) where
+  -- a run that goes no further
+  pub proceeds-whole : (r : Ended) (last : List ℕ) → r .state .branches ≤ until → EndsAs (settingOf table inputs room) fault (at (machineOf from (take words buffer)) going) buffer (budget - from .steps) r last
+      → Proceeds table inputs room fault from words buffer budget until r last
+  unfolding restOf
+  proceeds-whole r last h ends =
+      record { rounds = budget - from .steps; ended = ends .0; wrote = ends .1; within = h; stands = inl refl }
+
+  -- a run that is halted at a branch
+  pub proceeds-halted : (state : State) (words′ : ℕ) (held : List ℕ) → Ready table budget state → from .steps ≤ state .steps
+      → Reached (settingOf table inputs room) fault (at (machineOf from (take words buffer)) going) buffer (state .steps - from .steps) state words′ held
+      → state .steps < budget → state .branches ≡ until → Proceeds table inputs room fault from words buffer budget until (endedWith Spent state words′) held
+  unfolding restOf
+  proceeds-halted state words′ held ready later r below at-until =
+      let rounds = state .steps - from .steps in
+      let s = settingOf table inputs room in
+      let ends = turn-none s fault (at (machineOf from (take words buffer)) going) buffer rounds rounds state words′ held r refl in
+      record {
+        rounds = rounds;
+        ended = ends .0;
+        wrote = ends .1;
+        within = omega arith;
+        stands = inr (rw (r .here) (record { ready = ready; below = below; branches = at-until; steps = omega arith; status = refl }));
+      }
+
+-- a run that may execute as many branches as it has steps is not halted
+pub finish-whole : (table inputs : List ℕ) (room : ℕ) (fault : Fault) (from : State) (words : ℕ) (buffer : List ℕ) (budget : ℕ) (r : Ended) (last : List ℕ) → Proceeds table inputs room fault from words buffer budget budget r last
+    → (r ≡ endedOf (restOf (settingOf table inputs room) fault from words buffer (budget - from .steps)))
+    × (last ≡ put buffer 0 (restOf (settingOf table inputs room) fault from words buffer (budget - from .steps) .machine .events))
+finish-whole table inputs room fault from words buffer budget r last p = by (p .stands)
+  where
+    by : (p .rounds ≡ budget - from .steps) ⊎ Halted table budget budget from (p .rounds) (restOf (settingOf table inputs room) fault from words buffer (p .rounds))
+        → (r ≡ endedOf (restOf (settingOf table inputs room) fault from words buffer (budget - from .steps)))
+        × (last ≡ put buffer 0 (restOf (settingOf table inputs room) fault from words buffer (budget - from .steps) .machine .events))
+    by (inl e) = rw (← e) (p .ended, p .wrote)
+    by (inr h) = absurd (omega (arith, h .ready .branches, h .branches, h .below))

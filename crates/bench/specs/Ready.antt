@@ -1,14 +1,18 @@
 -- Document 01, "Running and scoring": what is known of a run under way on a checked graph. The private functions ask for it.
 -- Assumes nothing.
-use Prim.Native.Nat.{ℕ, _*_, _≤_, _<_}
+use mathlib.Core.Path.{_≡_}
+use mathlib.Core.Logic.{_⊎_}
+use Prim.Native.Nat.{ℕ, _+_, _-_, _*_, _≤_, _<_}
 use mathlib.Core.List.{List}
 use lib.ListN.{length, take}
+use Rattle.words.specs.Buffer.{put}
 use Rattle.graph.specs.Nodes.{nodeAt}
 use Rattle.graph.specs.Accepted.{NodeIn}
 use Rattle.bench.specs.Steps.{Setting, Progress, Status, going, ended, at}
 use Rattle.bench.specs.Runs.{after, settled, stateOf}
 use Rattle.bench.specs.Effects.{machineOf}
 use Rattle.bench.specs.declared.Fault.{Fault}
+use Rattle.bench.specs.declared.Outcome.{Outcome}
 use Rattle.bench.specs.declared.State.{State}
 use Rattle.bench.specs.declared.runs.Ended.{Ended}
 use Rattle.bench.specs.declared.runs.Ending.{Ending}
@@ -38,6 +42,25 @@ restOf s fault state words buffer rounds = after s fault (at (machineOf state (t
 abbrev pub endedOf : Progress → Ended
 endedOf p = record { outcome = settled (p .status); state = stateOf (p .machine); words = length (p .machine .events) }
 
+abbrev pub endedWith : Outcome → State → ℕ → Ended
+endedWith outcome state words = record { outcome = outcome; state = state; words = words }
+
 abbrev pub statusOf : Ending → Status
 statusOf Not = going
 statusOf (With outcome) = ended outcome
+
+-- a run that goes on, halted before the branch after `until` others
+pub record Halted (table : List ℕ) (budget until : ℕ) (from : State) (rounds : ℕ) (p : Progress) : Type 0 where
+  pub ready : Ready table budget (stateOf (p .machine))
+  pub below : p .machine .steps < budget
+  pub branches : p .machine .branches ≡ until
+  pub steps : p .machine .steps ≡ from .steps + rounds
+  pub status : p .status ≡ going
+
+-- what is left of a run is made whole, or up to a branch: its end, and what its buffer then holds
+pub record Proceeds (table inputs : List ℕ) (room : ℕ) (fault : Fault) (from : State) (words : ℕ) (buffer : List ℕ) (budget until : ℕ) (r : Ended) (last : List ℕ) : Type 0 where
+  pub rounds : ℕ
+  pub ended : r ≡ endedOf (restOf (settingOf table inputs room) fault from words buffer rounds)
+  pub wrote : last ≡ put buffer 0 (restOf (settingOf table inputs room) fault from words buffer rounds .machine .events)
+  pub within : r .state .branches ≤ until
+  pub stands : (rounds ≡ budget - from .steps) ⊎ Halted table budget until from rounds (restOf (settingOf table inputs room) fault from words buffer rounds)

@@ -6,14 +6,15 @@ ghost use mathlib.Core.List.{[], _∷_};
 ghost use lib.ListN.{length, replicate};
 ghost use Rattle.words.specs.Buffer.{put};
 ghost use Rattle.bench.specs.Steps.{start};
-ghost use Rattle.bench.specs.Runs.{stateOf};
+ghost use Rattle.bench.specs.Runs.{runOf, stateOf};
 ghost use Rattle.bench.specs.Effects.{hasRoom, eventWords, statusAfter};
-ghost use Rattle.bench.specs.Ready.{Ready, settingOf, restOf, endedOf, statusOf};
+ghost use Rattle.bench.specs.Ready.{Ready, Proceeds, settingOf, restOf, endedOf, endedWith, statusOf};
 use crate::Fault;
 use crate::Outcome;
 use crate::State;
-use crate::steps;
 use crate::steps::Sequel;
+use crate::steps::effect_at;
+use crate::steps::inverts;
 
 // How a run ended: its outcome, its last state, and how many words of events it made.
 pub struct Ended {
@@ -29,7 +30,7 @@ pub enum Ending {
 }
 
 // Whether what follows a step fits: an event needs two words of room.
-pub fn has_room(sequel: Sequel, words: usize, room: usize) -> bool
+fn has_room(sequel: Sequel, words: usize, room: usize) -> bool
     ensures { λ r. ⌜ r ≡ hasRoom sequel words room ⌝ }
 {
     match sequel {
@@ -46,7 +47,7 @@ pub fn has_room(sequel: Sequel, words: usize, room: usize) -> bool
 }
 
 // Whether a step ends the run.
-pub fn ends(sequel: Sequel, value: u32) -> Ending
+fn ends(sequel: Sequel, value: u32) -> Ending
     ensures { λ r. ⌜ statusOf r ≡ statusAfter sequel value ⌝ }
 {
     match sequel {
@@ -67,13 +68,7 @@ fn write(buffer: &mut [u32], i: usize, value: u32)
 }
 
 // The event of a step, if it makes one, is written after so many words; how many there are then.
-pub fn write_event(
-    events: &mut [u32],
-    words: usize,
-    sequel: Sequel,
-    value: u32,
-    room: usize,
-) -> usize
+fn write_event(events: &mut [u32], words: usize, sequel: Sequel, value: u32, room: usize) -> usize
     requires { ⌜ hasRoom sequel words room ≡ true ⌝ }
     ensures { λ r. ⌜ r ≡ words + length (eventWords sequel value) ⌝ }
     ensures { λ _. ⌜ now (events .exit) ≡ put (now (events .entry)) words (eventWords sequel value) ⌝ }
@@ -90,8 +85,69 @@ pub fn write_event(
     }
 }
 
-// A run goes on from a state until it ends or its budget is used up. Events past the end of the buffer are counted and lost.
+fn end(outcome: Outcome, state: State, words: usize) -> Ended
+    ensures { λ r. ⌜ r ≡ endedWith outcome state words ⌝ }
+{
+    Ended {
+        outcome,
+        state,
+        words,
+    }
+}
+
+// A run goes on from a state until it ends, its budget is used up, or so many branches are executed. The state stays where it is,
+// and each effect is applied to it there. Events past the end of the buffer are counted and lost.
 pub fn proceed(
+    table: &[u32],
+    inputs: &[u32],
+    events: &mut [u32],
+    room: usize,
+    budget: usize,
+    until: usize,
+    fault: Fault,
+    from: State,
+    made: usize,
+) -> Ended
+    requires { ⌜ Ready (now table) budget from ⌝ }
+    requires { ⌜ made ≤ length (now events) ⌝ }
+    requires { ⌜ from .branches ≤ until ⌝ }
+    ensures { λ r. ⌜ Proceeds (now (table .entry)) (now (inputs .entry)) room fault from made (now (events .entry)) budget until r (now (events .exit)) ⌝ }
+{
+    let mut state = from;
+    let mut words = made;
+    while state.steps < budget {
+        if state.branches == until {
+            return end(Outcome::Spent, state, words);
+        }
+        let inverted = inverts(fault, state.branches);
+        let effect = effect_at(
+            table,
+            inputs,
+            &state.registers,
+            state.node,
+            state.reads,
+            inverted,
+        );
+        let sequel = effect.sequel;
+        if !has_room(sequel, words, room) {
+            return end(Outcome::Full, state, words);
+        }
+        words = write_event(events, words, sequel, effect.value, room);
+        let register = effect.register;
+        state.registers[register] = effect.value;
+        state.node = effect.next;
+        state.steps += 1;
+        state.branches += effect.branches;
+        state.reads += effect.reads;
+        if let Ending::With(outcome) = ends(sequel, effect.value) {
+            return end(outcome, state, words);
+        }
+    }
+    end(Outcome::Spent, state, words)
+}
+
+// A run goes on from a state to its end. It never executes as many branches as its budget has steps and goes on.
+pub fn finish(
     table: &[u32],
     inputs: &[u32],
     events: &mut [u32],
@@ -106,46 +162,17 @@ pub fn proceed(
     ensures { λ r. ⌜ r ≡ endedOf (restOf (settingOf (now (table .entry)) (now (inputs .entry)) room) fault from made (now (events .entry)) (budget - from .steps)) ⌝ }
     ensures { λ _. ⌜ now (events .exit) ≡ put (now (events .entry)) 0 (restOf (settingOf (now (table .entry)) (now (inputs .entry)) room) fault from made (now (events .entry)) (budget - from .steps) .machine .events) ⌝ }
 {
-    let mut state = from;
-    let mut words = made;
-    while state.steps < budget {
-        let inverted = steps::inverts(fault, state.branches);
-        let effect = steps::effect_at(
-            table,
-            inputs,
-            &state.registers,
-            state.node,
-            state.reads,
-            inverted,
-        );
-        let sequel = effect.sequel;
-        if !has_room(sequel, words, room) {
-            return Ended {
-                outcome: Outcome::Full,
-                state,
-                words,
-            };
-        }
-        words = write_event(events, words, sequel, effect.value, room);
-        let register = effect.register;
-        state.registers[register] = effect.value;
-        state.node = effect.next;
-        state.steps += 1;
-        state.branches += effect.branches;
-        state.reads += effect.reads;
-        if let Ending::With(outcome) = ends(sequel, effect.value) {
-            return Ended {
-                outcome,
-                state,
-                words,
-            };
-        }
-    }
-    Ended {
-        outcome: Outcome::Spent,
-        state,
-        words,
-    }
+    proceed(
+        table,
+        inputs,
+        events,
+        room,
+        budget,
+        budget,
+        fault,
+        from,
+        made,
+    )
 }
 
 fn zeros() -> [u32; 64]
@@ -165,4 +192,21 @@ pub fn start(entry: usize) -> State
         branches: 0,
         reads: 0,
     }
+}
+
+// A run from the entry to its end.
+pub fn whole(
+    table: &[u32],
+    inputs: &[u32],
+    events: &mut [u32],
+    room: usize,
+    entry: usize,
+    budget: usize,
+    fault: Fault,
+) -> Ended
+    requires { ⌜ Ready (now table) budget (stateOf (start entry)) ⌝ }
+    ensures { λ r. ⌜ r ≡ endedOf (runOf (settingOf (now (table .entry)) (now (inputs .entry)) room) fault entry budget) ⌝ }
+    ensures { λ _. ⌜ now (events .exit) ≡ put (now (events .entry)) 0 (runOf (settingOf (now (table .entry)) (now (inputs .entry)) room) fault entry budget .machine .events) ⌝ }
+{
+    finish(table, inputs, events, room, budget, fault, start(entry), 0)
 }
