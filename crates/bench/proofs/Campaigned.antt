@@ -15,7 +15,7 @@ use Rattle.words.proofs.Puts.{length-put}
 use Rattle.graph.specs.Checks.{runnableCheck}
 use Rattle.bench.specs.Steps.{Machine, Setting, Progress, start}
 use Rattle.bench.specs.Runs.{runOf, settled, stateOf, mostSteps}
-use Rattle.bench.specs.Ready.{settingOf, endedOf}
+use Rattle.bench.specs.Ready.{End, settingOf, endedOf}
 use Rattle.bench.specs.Campaigns.{campaignOf, scoreBelow, scoreOf, scoreAnswer, campaignAnswer, campaignFirst, campaignSecond}
 use Rattle.bench.proofs.Outcome.{the-type}
 use Rattle.bench.proofs.Bounds.{within}
@@ -29,7 +29,6 @@ use Rattle.bench.specs.declared.Outcome.{Outcome}
 use Rattle.bench.specs.declared.Outcome.the-variants.{Returned, Caught, Spent, Full}
 use Rattle.bench.specs.declared.Score.{Score}
 use Rattle.bench.specs.declared.State.{State}
-use Rattle.bench.specs.declared.runs.Ended.{Ended}
 
 -- a run that ended in any other way than with a value
 no-value : (s : Setting) (entry budget : ℕ) (m : Machine) (o : Outcome) → OneOf (1 ∷ 2 ∷ 3 ∷ []) (tagOf the-type o) → scoreOf s entry budget m o ≡ refused 13 0
@@ -57,31 +56,31 @@ module _ (table inputs first second : List ℕ) (entry budget : ℕ) where
   reports r e = rw e (refl, (refl, refl))
 
   -- a trial run that does not return
-  pub scored-none : (trial : Ended) → trial ≡ endedOf run → OneOf (1 ∷ 2 ∷ 3 ∷ []) (tagOf the-type (trial .outcome)) → Reports (Refused 13 0) first second
+  pub scored-none : (trial : End) → trial ≡ endedOf run → OneOf (1 ∷ 2 ∷ 3 ∷ []) (tagOf the-type (trial .outcome)) → Reports (Refused 13 0) first second
   scored-none trial made other =
-      let ends : trial .outcome ≡ settled (run .status) = ap (λ (r : Ended). r .outcome) made in
+      let ends : trial .outcome ≡ settled (run .status) = ap (λ (r : End). r .outcome) made in
       reports (Refused 13 0) (no-value s entry budget (run .machine) (settled (run .status)) (rw ends at other))
 
-  module _ (ended : Ended) (last : List ℕ) (made : ended ≡ endedOf run) (wrote : last ≡ put first 0 (run .machine .events)) where
+  module _ (ended : End) (last : List ℕ) (made : ended ≡ endedOf run) (wrote : last ≡ put first 0 (run .machine .events)) where
     -- the reference lies in the first buffer
     pub reference-made : length first ≡ length second → Reference (settingOf table inputs (length second)) entry budget last (ended .words) (ended .state .branches)
     reference-made same =
-        let count : ended .words ≡ length (run .machine .events) = ap (λ (r : Ended). r .words) made in
+        let count : ended .words ≡ length (run .machine .events) = ap (λ (r : End). r .words) made in
         let size = ap length wrote ∙ length-put first 0 (run .machine .events) in
         let fits : length (run .machine .events) ≤ length first = within s Undisturbed entry budget .events in
         rw (← same)
         (record {
           whole = omega arith;
           events = ap (take (ended .words)) wrote ∙ take-put-all first (run .machine .events) (ended .words) fits count;
-          branches = ap (λ (r : Ended). r .state .branches) made;
+          branches = ap (λ (r : End). r .state .branches) made;
         })
 
     -- a trial run that returned a value, and the score of its branches
-    pub scored-some : (trial : Ended) (value : ℕ) → trial ≡ endedOf run → trial .outcome ≡ Returned value → length first ≡ length second
+    pub scored-some : (trial : End) (value : ℕ) → trial ≡ endedOf run → trial .outcome ≡ Returned value → length first ≡ length second
         → (score : Score) → score ≡ scoreBelow (settingOf table inputs (length second)) entry budget value (take (ended .words) last) (ended .state .branches)
         → (n : ℕ) (cleared : List ℕ) → n ≡ length second → cleared ≡ replicate n 0 → Reports (Scored score) last cleared
     scored-some trial value tries returned same score scores n cleared size clears =
-        let ends : settled (run .status) ≡ Returned value = sym (ap (λ (r : Ended). r .outcome) tries) ∙ returned in
+        let ends : settled (run .status) ≡ Returned value = sym (ap (λ (r : End). r .outcome) tries) ∙ returned in
         let r = reference-made same in
         let is : scoreBelow s entry budget value (run .machine .events) (run .machine .branches) ≡ score =
         sym (scores ∙ (rw (r .events, r .branches, ← same))) in

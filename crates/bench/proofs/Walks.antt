@@ -11,7 +11,7 @@ use Rattle.words.proofs.Puts.{length-put}
 use Rattle.bench.specs.Steps.{Machine, Setting, Status, going, Progress, at, start}
 use Rattle.bench.specs.Effects.{machineOf}
 use Rattle.bench.specs.Runs.{after, runOf, settled, stateOf}
-use Rattle.bench.specs.Ready.{Ready, Halted, Proceeds, settingOf, restOf, endedOf}
+use Rattle.bench.specs.Ready.{End, Ready, Halted, Proceeds, settingOf, restOf, endedOf}
 use Rattle.bench.specs.Campaigns.{classOf, tallied, classAt, scoreBelow}
 use Rattle.bench.specs.Classes.{Shared, Reference, forkClass}
 use Rattle.bench.proofs.Growth.{Grown, grown-after}
@@ -21,7 +21,6 @@ use Rattle.bench.proofs.Tallies.{score-more}
 use Rattle.bench.specs.declared.Fault.the-variants.{Undisturbed}
 use Rattle.bench.specs.declared.State.{State}
 use Rattle.bench.specs.declared.Score.{Score}
-use Rattle.bench.specs.declared.runs.Ended.{Ended}
 
 module _ (table inputs : List ℕ) (room entry budget : ℕ) where
   abbrev s : Setting
@@ -73,7 +72,7 @@ module _ (table inputs : List ℕ) (room entry budget : ℕ) where
         tried ∙ (rw (class, w .branches, scored)) ∙ sym (score-more s entry budget value reference place)
 
     -- on to the next branch, over a buffer that the fork has written in
-    module _ (buffer : List ℕ) (head : take words buffer ≡ take words held) (size : length buffer ≡ length held) (next : Ended) (last : List ℕ)
+    module _ (buffer : List ℕ) (head : take words buffer ≡ take words held) (size : length buffer ≡ length held) (next : End) (last : List ℕ)
         (p : Proceeds table inputs room Undisturbed state words buffer budget (place + 1) next last) where
       fits′ : words ≤ length buffer
       fits′ = let f = w .fits in omega arith
@@ -90,7 +89,7 @@ module _ (table inputs : List ℕ) (room entry budget : ℕ) where
           let ready = w .ready in
           let all : state .steps + p .rounds ≡ budget = omega arith in
           let final : next .state .branches ≡ positions =
-          ap (λ (r : Ended). r .state .branches) (p .ended ∙ ap endedOf (run (p .rounds) ∙ ap (runOf s Undisturbed entry) all)) ∙ sym is in
+          ap (λ (r : End). r .state .branches) (p .ended ∙ ap endedOf (run (p .rounds) ∙ ap (runOf s Undisturbed entry) all)) ∙ sym is in
           let within = p .within in
           omega arith
 
@@ -98,12 +97,12 @@ module _ (table inputs : List ℕ) (room entry budget : ℕ) where
       halted h =
           let q = restOf s Undisturbed state words buffer (p .rounds) in
           let fit = rest-fits table s Undisturbed budget state words buffer (p .rounds) (w .ready) fits′ room′ in
-          let count : next .words ≡ length (q .machine .events) = ap (λ (r : Ended). r .words) (p .ended) in
+          let count : next .words ≡ length (q .machine .events) = ap (λ (r : End). r .words) (p .ended) in
           let found : take (next .words) last ≡ q .machine .events = ap (take (next .words)) (p .wrote) ∙ take-put-all buffer (q .machine .events) (next .words) fit count in
           let long = ap length (p .wrote) ∙ length-put buffer 0 (q .machine .events) in
           let kept = w .kept in
           let came : runOf s Undisturbed entry (q .machine .steps) ≡ q = ap (runOf s Undisturbed entry) (h .steps) ∙ sym (run (p .rounds)) in
-          subst (λ (state : State). Walked (place + 1) state (next .words) last) (sym (ap (λ (r : Ended). r .state) (p .ended)))
+          subst (λ (state : State). Walked (place + 1) state (next .words) last) (sym (ap (λ (r : End). r .state) (p .ended)))
           (record {
             ready = h .ready;
             here = came ∙ ap (at (q .machine)) (h .status) ∙ ap (λ (l : List ℕ). at (machineOf (stateOf (q .machine)) l) going) (sym found);

@@ -8,7 +8,7 @@ ghost use Rattle.words.specs.Buffer.{put};
 ghost use Rattle.bench.specs.Steps.{start};
 ghost use Rattle.bench.specs.Runs.{runOf, stateOf};
 ghost use Rattle.bench.specs.Effects.{hasRoom, eventWords, statusAfter};
-ghost use Rattle.bench.specs.Ready.{Ready, Proceeds, settingOf, restOf, endedOf, endedWith, statusOf};
+ghost use Rattle.bench.specs.Ready.{Ready, Proceeds, settingOf, restOf, endedOf, endedAt, endOf, runEnd, stateAt, standingAt, statusOf};
 use crate::Fault;
 use crate::Outcome;
 use crate::State;
@@ -16,11 +16,26 @@ use crate::steps::Sequel;
 use crate::steps::effect_at;
 use crate::steps::inverts;
 
-// How a run ended: its outcome, its last state, and how many words of events it made.
-pub struct Ended {
+// Where a run stands, beside its registers: the node to execute next, the counts, and how many words of events there are.
+pub struct At {
+    pub node: usize,
+    pub steps: usize,
+    pub branches: usize,
+    pub reads: usize,
+    pub words: usize,
+}
+
+// A whole run: its outcome, its last state, and how many words of events it made.
+pub struct Run {
     pub outcome: Outcome,
     pub state: State,
     pub words: usize,
+}
+
+// How a run ended, and where.
+pub struct Ended {
+    pub outcome: Outcome,
+    pub at: At,
 }
 
 // Whether a run goes on.
@@ -85,18 +100,14 @@ fn write_event(events: &mut [u32], words: usize, sequel: Sequel, value: u32, roo
     }
 }
 
-fn end(outcome: Outcome, state: State, words: usize) -> Ended
-    ensures { λ r. ⌜ r ≡ endedWith outcome state words ⌝ }
+fn end(outcome: Outcome, at: At) -> Ended
+    ensures { λ r. ⌜ r ≡ endedAt outcome at ⌝ }
 {
-    Ended {
-        outcome,
-        state,
-        words,
-    }
+    Ended { outcome, at }
 }
 
-// A run goes on from a state until it ends, its budget is used up, or so many branches are executed. The state stays where it is,
-// and each effect is applied to it there. Events past the end of the buffer are counted and lost.
+// A run goes on until it ends, its budget is used up, or so many branches are executed. Its state stays where it is, and each
+// effect is applied to it there. Events past the end of the buffer are counted and lost.
 pub fn proceed(
     table: &[u32],
     inputs: &[u32],
@@ -105,48 +116,39 @@ pub fn proceed(
     budget: usize,
     until: usize,
     fault: Fault,
-    from: State,
-    made: usize,
+    registers: &mut [u32; 64],
+    from: At,
 ) -> Ended
-    requires { ⌜ Ready (now table) budget from ⌝ }
-    requires { ⌜ made ≤ length (now events) ⌝ }
-    requires { ⌜ from .branches ≤ until ⌝ }
-    ensures { λ r. ⌜ Proceeds (now (table .entry)) (now (inputs .entry)) room fault from made (now (events .entry)) budget until r (now (events .exit)) ⌝ }
+    requires { ⌜ Ready (now table) budget (stateAt (now registers) from) ⌝ }
+    requires { ⌜ (from .words ≤ length (now events)) × (from .branches ≤ until) ⌝ }
+    ensures { λ r. ⌜ Proceeds (now (table .entry)) (now (inputs .entry)) room fault (stateAt (now (registers .entry)) from) (from .words) (now (events .entry)) budget until (endOf (now (registers .exit)) r) (now (events .exit)) ⌝ }
 {
-    let mut state = from;
-    let mut words = made;
-    while state.steps < budget {
-        if state.branches == until {
-            return end(Outcome::Spent, state, words);
+    let mut at = from;
+    while at.steps < budget {
+        if at.branches == until {
+            return end(Outcome::Spent, at);
         }
-        let inverted = inverts(fault, state.branches);
-        let effect = effect_at(
-            table,
-            inputs,
-            &state.registers,
-            state.node,
-            state.reads,
-            inverted,
-        );
+        let inverted = inverts(fault, at.branches);
+        let effect = effect_at(table, inputs, registers, at.node, at.reads, inverted);
         let sequel = effect.sequel;
-        if !has_room(sequel, words, room) {
-            return end(Outcome::Full, state, words);
+        if !has_room(sequel, at.words, room) {
+            return end(Outcome::Full, at);
         }
-        words = write_event(events, words, sequel, effect.value, room);
+        at.words = write_event(events, at.words, sequel, effect.value, room);
         let register = effect.register;
-        state.registers[register] = effect.value;
-        state.node = effect.next;
-        state.steps += 1;
-        state.branches += effect.branches;
-        state.reads += effect.reads;
+        registers[register] = effect.value;
+        at.node = effect.next;
+        at.steps += 1;
+        at.branches += effect.branches;
+        at.reads += effect.reads;
         if let Ending::With(outcome) = ends(sequel, effect.value) {
-            return end(outcome, state, words);
+            return end(outcome, at);
         }
     }
-    end(Outcome::Spent, state, words)
+    end(Outcome::Spent, at)
 }
 
-// A run goes on from a state to its end. It never executes as many branches as its budget has steps and goes on.
+// A run goes on to its end. It never executes as many branches as its budget has steps and goes on.
 pub fn finish(
     table: &[u32],
     inputs: &[u32],
@@ -154,13 +156,13 @@ pub fn finish(
     room: usize,
     budget: usize,
     fault: Fault,
-    from: State,
-    made: usize,
+    registers: &mut [u32; 64],
+    from: At,
 ) -> Ended
-    requires { ⌜ Ready (now table) budget from ⌝ }
-    requires { ⌜ made ≤ length (now events) ⌝ }
-    ensures { λ r. ⌜ r ≡ endedOf (restOf (settingOf (now (table .entry)) (now (inputs .entry)) room) fault from made (now (events .entry)) (budget - from .steps)) ⌝ }
-    ensures { λ _. ⌜ now (events .exit) ≡ put (now (events .entry)) 0 (restOf (settingOf (now (table .entry)) (now (inputs .entry)) room) fault from made (now (events .entry)) (budget - from .steps) .machine .events) ⌝ }
+    requires { ⌜ Ready (now table) budget (stateAt (now registers) from) ⌝ }
+    requires { ⌜ from .words ≤ length (now events) ⌝ }
+    ensures { λ r. ⌜ endOf (now (registers .exit)) r ≡ endedOf (restOf (settingOf (now (table .entry)) (now (inputs .entry)) room) fault (stateAt (now (registers .entry)) from) (from .words) (now (events .entry)) (budget - from .steps)) ⌝ }
+    ensures { λ _. ⌜ now (events .exit) ≡ put (now (events .entry)) 0 (restOf (settingOf (now (table .entry)) (now (inputs .entry)) room) fault (stateAt (now (registers .entry)) from) (from .words) (now (events .entry)) (budget - from .steps) .machine .events) ⌝ }
 {
     proceed(
         table,
@@ -170,9 +172,21 @@ pub fn finish(
         budget,
         budget,
         fault,
+        registers,
         from,
-        made,
     )
+}
+
+pub fn standing(node: usize, steps: usize, branches: usize, reads: usize, words: usize) -> At
+    ensures { λ r. ⌜ r ≡ standingAt node steps branches reads words ⌝ }
+{
+    At {
+        node,
+        steps,
+        branches,
+        reads,
+        words,
+    }
 }
 
 fn zeros() -> [u32; 64]
@@ -203,10 +217,32 @@ pub fn whole(
     entry: usize,
     budget: usize,
     fault: Fault,
-) -> Ended
+) -> Run
     requires { ⌜ Ready (now table) budget (stateOf (start entry)) ⌝ }
-    ensures { λ r. ⌜ r ≡ endedOf (runOf (settingOf (now (table .entry)) (now (inputs .entry)) room) fault entry budget) ⌝ }
+    ensures { λ r. ⌜ runEnd r ≡ endedOf (runOf (settingOf (now (table .entry)) (now (inputs .entry)) room) fault entry budget) ⌝ }
     ensures { λ _. ⌜ now (events .exit) ≡ put (now (events .entry)) 0 (runOf (settingOf (now (table .entry)) (now (inputs .entry)) room) fault entry budget .machine .events) ⌝ }
 {
-    finish(table, inputs, events, room, budget, fault, start(entry), 0)
+    let mut state = start(entry);
+    let from = standing(entry, 0, 0, 0, 0);
+    let ended = finish(
+        table,
+        inputs,
+        events,
+        room,
+        budget,
+        fault,
+        &mut state.registers,
+        from,
+    );
+    let outcome = ended.outcome;
+    let at = ended.at;
+    state.node = at.node;
+    state.steps = at.steps;
+    state.branches = at.branches;
+    state.reads = at.reads;
+    Run {
+        outcome,
+        state,
+        words: at.words,
+    }
 }

@@ -143,8 +143,20 @@ fn tried(
 {
     let room = events.len();
     let fault = Fault::Inverted(from.branches);
-    let ended = runs::finish(table, inputs, events, room, budget, fault, from, words);
-    let made = ended.words;
+    let at = runs::standing(from.node, from.steps, from.branches, from.reads, words);
+    let mut fork = from;
+    let ended = runs::finish(
+        table,
+        inputs,
+        events,
+        room,
+        budget,
+        fault,
+        &mut fork.registers,
+        at,
+    );
+    let end = ended.at;
+    let made = end.words;
     let prefix = agrees(reference, total, events, made, words);
     let outcome = ended.outcome;
     tally(classed(outcome, value, prefix, made == total), score)
@@ -186,7 +198,8 @@ pub fn walk(
             score,
         );
         place += 1;
-        let next = runs::proceed(
+        let from = runs::standing(state.node, state.steps, state.branches, state.reads, words);
+        let ended = runs::proceed(
             table,
             inputs,
             events,
@@ -194,12 +207,15 @@ pub fn walk(
             budget,
             place,
             Fault::Undisturbed,
-            state,
-            words,
+            &mut state.registers,
+            from,
         );
-        let after = next.state;
-        state = after;
-        words = next.words;
+        let at = ended.at;
+        state.node = at.node;
+        state.steps = at.steps;
+        state.branches = at.branches;
+        state.reads = at.reads;
+        words = at.words;
     }
     score
 }

@@ -1,5 +1,6 @@
 -- `bench::campaigns::scored` meets its contract. Assumes nothing.
 use borrow.Author.Needs.{needs}
+use Rattle.bench.specs.Ready.{runEnd}
 use Rattle.bench.proofs.Campaigned.{scored-none, scored-some, reference-made}
 use Rattle.bench.proofs.campaigns.scored.Statement.{statement}
 use Rattle.bench.proofs.campaigns.scored.Tie as tie
@@ -14,7 +15,7 @@ enum-known-outcome : tie.Need-enum-known-outcome
 enum-known-outcome c = search needs
 
 returns : tie.Need-returns
-returns c = scored-none _ _ _ _ _ _ _ (c .before .before .whole .ensures .0) (c .match .keys2)
+returns c = scored-none _ _ _ _ _ _ (runEnd (c .before .before .whole .result)) (c .before .before .whole .ensures .0) (c .match .keys2)
 
 whole-requires-2 : tie.Need-whole-requires-2
 whole-requires-2 c κs = search needs
@@ -22,8 +23,8 @@ whole-requires-2 c κs = search needs
 walk-requires : tie.Need-walk-requires
 walk-requires c κs =
     let start = c .before .before .before .before .before .before .before .before .before .before .before .before .before .before .before .before .before in
-    let made = c .before .before .before .before .before .whole2 .ensures in
-    (start .pre .0, reference-made _ _ _ (start .args .second .now) _ _ _ _ (made .0) (made .1) (start .pre .1))
+    let made = c .before .before .before .before .before .whole2 in
+    (start .pre .0, reference-made _ _ _ (start .args .second .now) _ _ (runEnd (made .result)) _ (made .ensures .0) (made .ensures .1) (start .pre .1))
 
 clear-requires : tie.Need-clear-requires
 clear-requires c κs = search needs
@@ -36,10 +37,12 @@ same-length-2 c = search needs
 
 returns-2 : tie.Need-returns-2
 returns-2 c =
-    let made = c .before .before .before .before .before .before .before .before .before .before .before .before .whole2 .ensures in
     let start = c .before .before .before .before .before .before .before .before .before .before .before .before .before .before .before .before .before .before .before .before .before .before .before .before in
+    let trial = c .before .before .before .before .before .before .before .before .before .before .before .before .before .before .before .before .before .before .whole in
+    let made = c .before .before .before .before .before .before .before .before .before .before .before .before .whole2 in
     let returned = c .before .before .before .before .before .before .before .before .before .before .before .before .before .before .before .outcome .given .1 in
-    scored-some _ _ _ (start .args .second .now) _ _ _ _ (made .0) (made .1) _ _ (c .before .before .before .before .before .before .before .before .before .before .before .before .before .before .before .before .before .before .whole .ensures .0) returned (start .pre .1) _ (c .before .before .before .before .before .before .walk .ensures) _ _ (c .before .before .before .before .before .before .walk .kept .1 .1 .1 .1 .1 .0) (c .before .before .clear .ensures)
+    let walk = c .before .before .before .before .before .before .walk in
+    scored-some _ _ _ (start .args .second .now) _ _ (runEnd (made .result)) _ (made .ensures .0) (made .ensures .1) (runEnd (trial .result)) _ (trial .ensures .0) returned (start .pre .1) _ (walk .ensures) _ _ (walk .kept .1 .1 .1 .1 .1 .0) (c .before .before .clear .ensures)
 
 pub scored-spec : {M : Type 1} → statement M
 scored-spec =

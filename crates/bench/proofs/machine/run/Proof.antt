@@ -3,6 +3,7 @@ use borrow.Author.Needs.{needs}
 use mathlib.Core.Path.{_≡_, sym, ap, _∙_}
 use Rattle.words.specs.Answer.{given}
 use Rattle.graph.specs.Checks.{checkOf, runnableCheck}
+use Rattle.bench.specs.Ready.{runEnd}
 use Rattle.bench.proofs.Checked.{ready-start, run-twelve, run-made, run-refused}
 use Rattle.bench.proofs.machine.run.Statement.{statement}
 use Rattle.bench.proofs.machine.run.Tie as tie
@@ -37,7 +38,8 @@ same-length c = search needs
 
 returns-2 : tie.Need-returns-2
 returns-2 c =
-    run-made _ _ _ _ _ _ _ _ _ _ (accepted (c .before .before .before .before .before .before .before)) (c .before .before .before .before .before .before .if1 .left) (c .before .before .before .before .whole .ensures .0) (c .before .before .before .before .whole .ensures .1)
+    let made = c .before .before .before .before .whole .ensures in
+    run-made _ _ _ _ _ _ _ _ (runEnd (c .before .before .before .before .whole .result)) _ (accepted (c .before .before .before .before .before .before .before)) (c .before .before .before .before .before .before .if1 .left) (made .0) (made .1)
 
 returns-3 : tie.Need-returns-3
 returns-3 c =

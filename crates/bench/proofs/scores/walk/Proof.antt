@@ -3,7 +3,7 @@ use mathlib.Core.Path.{_≡_, refl}
 use Prim.Native.Nat.{_+_, _-_, _^_, _≤_, _<_}
 use native.Mathlib.Omega.{arith}
 use lib.ListN.{length, take}
-use Rattle.bench.specs.Ready.{settingOf}
+use Rattle.bench.specs.Ready.{settingOf, endOf}
 use Rattle.bench.specs.Campaigns.{scoreBelow}
 use Rattle.bench.proofs.Tallies.{score-none, score-few}
 use Rattle.bench.proofs.Walks.{Walked, walk-start, walk-shared, walk-scored, walk-on}
@@ -36,34 +36,39 @@ tried-requires : tie.Need-tried-requires Inv-loop μ-loop
 tried-requires c κs =
     let start = c .before .before .before .before .before .before .before .before .before in
     let inv = c .before .before .loop .inv in
-    let w = inv .3 (c .before .loop-test .taken) in
-    let few : c .before .before .loop .place + 1 < 2 ^ 64 = omega (arith, start .fits .positions, c .before .loop-test .taken) in
+    let below = c .before .loop-test .taken in
+    let w = inv .3 below in
+    let few : c .before .before .loop .place + 1 < 2 ^ 64 = omega (arith, start .fits .positions, below) in
     (w .ready, (walk-shared _ _ _ _ _ _ _ _ _ w _ _ _ (start .pre .1), rw (inv .1) (score-few _ _ _ _ _ _ few)))
 
 add-place : tie.Need-add-place Inv-loop μ-loop
 add-place c = omega (arith, c .before .before .before .before .before .before .before .before .before .before .before .before .fits .positions, c .before .before .before .before .loop-test .taken)
 
+standing-requires : tie.Need-standing-requires Inv-loop μ-loop
+standing-requires c κs = tt
+
 proceed-requires : tie.Need-proceed-requires Inv-loop μ-loop
 proceed-requires c κs =
-    let w = c .before .before .before .before .before .before .loop .inv .3 (c .before .before .before .before .before .loop-test .taken) in
-    let size = c .before .before .before .tried .kept .1 .1 .1 .1 .1 .0 in
-    (w .ready, (omega (arith, w .fits), omega (arith, w .branches)))
+    let w = c .before .before .before .before .before .before .before .before .loop .inv .3 (c .before .before .before .before .before .before .before .loop-test .taken) in
+    let size = c .before .before .before .before .before .tried .kept .1 .1 .1 .1 .1 .0 in
+    rw (c .before .before .standing .ensures) (w .ready, (omega (arith, w .fits), omega (arith, w .branches)))
 
 loop-less : tie.Need-loop-less Inv-loop μ-loop
-loop-less c = omega (arith, c .before .before .before .before .before .before .before .before .before .loop-test .taken)
+loop-less c = omega (arith, c .before .before .before .before .before .before .before .before .before .before .before .loop-test .taken)
 
 loop-again : tie.Need-loop-again Inv-loop μ-loop
 loop-again c =
-    let inv = c .before .before .before .before .before .before .before .before .before .before .loop .inv in
-    let below = c .before .before .before .before .before .before .before .before .before .loop-test .taken in
+    let inv = c .before .before .before .before .before .before .before .before .before .before .before .before .loop .inv in
+    let below = c .before .before .before .before .before .before .before .before .before .before .before .loop-test .taken in
     let w = inv .3 below in
-    let t = c .before .before .before .before .before .before .before .tried in
+    let t = c .before .before .before .before .before .before .before .before .before .tried in
     let size = t .kept .1 .1 .1 .1 .1 .0 in
-    let long = c .before .before .before .proceed .kept .1 .1 .0 in (
+    let long = c .before .before .before .proceed .kept .1 .1 .0 in
+    let p = c .before .before .before in (
       omega arith,
       walk-scored _ _ _ _ _ _ _ _ _ w _ _ _ _ (inv .1) (t .ensures .0),
       omega (arith, inv .2),
-      λ more. walk-on _ _ _ _ _ _ _ _ _ w _ (t .ensures .1) size _ _ (c .before .before .before .proceed .ensures) _ (c .before .before .before .before .before .before .before .before .before .before .before .before .before .before .before .before .before .pre .1 .branches) more,
+      λ more. walk-on _ _ _ _ _ _ _ _ _ w _ (t .ensures .1) size (endOf (p .proceed .last .1 .1 .1 .1 .1 .1 .1 .0) (p .proceed .result)) _ (rw (c .before .before .before .before .before .before .standing .ensures) at (p .proceed .ensures)) _ (c .before .before .before .before .before .before .before .before .before .before .before .before .before .before .before .before .before .before .before .pre .1 .branches) more,
     )
 
 same-length : tie.Need-same-length Inv-loop μ-loop
@@ -86,6 +91,7 @@ walk-spec =
     loop-holds
     tried-requires
     add-place
+    standing-requires
     proceed-requires
     loop-less
     loop-again
