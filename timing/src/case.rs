@@ -11,7 +11,6 @@ pub const ROOM: usize = 16_384;
 
 /// A graph to run or to score.
 pub struct Case {
-    pub name: &'static str,
     pub graph: Graph,
     pub table: Vec<u32>,
     pub input: Vec<u32>,
@@ -20,7 +19,7 @@ pub struct Case {
 
 impl Case {
     /// A loop that goes round as often as its first input word says.
-    pub fn new(name: &'static str, text: &str, hardened: bool, rounds: u32) -> Self {
+    pub fn new(text: &str, hardened: bool, rounds: u32) -> Self {
         let file = assemble(text).expect("a timed graph is well formed");
         let held: Result<Held, Refusal> = if hardened {
             read_hardened(&file)
@@ -29,7 +28,6 @@ impl Case {
         };
         let (graph, table) = held.expect("a timed graph is accepted");
         Case {
-            name,
             graph,
             table,
             input: input(rounds),

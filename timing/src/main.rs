@@ -5,228 +5,225 @@
 mod case;
 mod proved;
 mod race;
+mod same;
 
 use case::{block, branches, Case, ROOM};
-use race::{race, ratio};
-use second::campaign::Score;
-use second::fast::{campaign_forked, campaign_rerun, run_fast};
+use race::{Entry, Pick, Race};
+use same::{rust_run, Buffers};
 use second::programs::{Held, TABLE_WORDS};
-use second::run::Answer;
 use std::hint::black_box;
 use std::process::ExitCode;
-use std::time::Duration;
+use std::time::{Duration, Instant};
 
 const LOOP: &str = include_str!("../../second/bench/loop.graph");
 const MIXED: &str = include_str!("../graphs/mixed.graph");
 
-const RUN_TURNS: u32 = 400;
-const CAMPAIGN_TURNS: u32 = 60;
-const RERUN_TURNS: u32 = 2;
-const HARDEN_TURNS: u32 = 400;
+/// How long the jobs take turns.
+const TIME: Duration = Duration::from_secs(20);
 
 fn main() -> ExitCode {
-    let plain = |rounds| Case::new("loop", LOOP, false, rounds);
-    let hardened = |rounds| Case::new("hardened loop", LOOP, true, rounds);
-    let mixed = |rounds| Case::new("mixed loop", MIXED, false, rounds);
-    let mixed_hardened = |rounds| Case::new("hardened mixed loop", MIXED, true, rounds);
-    let mut report = Report { missed: 0 };
-    run(&mut report, &plain(9_999), &plain(19_999));
-    run(&mut report, &hardened(4_150), &hardened(8_300));
-    run(&mut report, &mixed(3_500), &mixed(7_000));
-    run(&mut report, &mixed_hardened(1_750), &mixed_hardened(3_500));
-    campaign(&mut report, &hardened(4_150), &hardened(8_300));
-    campaign(&mut report, &mixed_hardened(1_750), &mixed_hardened(3_500));
-    rerun(&mut report, &hardened(8_300));
-    harden(&mut report, "all branches", |nodes| branches(nodes, false));
-    harden(&mut report, "all branches, downward", |nodes| {
-        branches(nodes, true)
-    });
-    harden(&mut report, "one block, downward", |nodes| {
-        block(nodes, true)
-    });
-    ExitCode::from(u8::from(report.missed > 0))
-}
-
-/// Prints what was measured beside what is to be reached.
-struct Report {
-    missed: u32,
-}
-
-impl Report {
-    fn line(&mut self, what: &str, measured: f64, bar: &str, reached: bool) {
-        let verdict = if reached { "reached" } else { "NOT REACHED" };
-        println!("{what:<68} {measured:>8.2}   {bar}: {verdict}");
-        self.missed += u32::from(!reached);
+    let runs = [
+        Pair::new("loop", LOOP, false, 19_998),
+        Pair::new("hardened loop", LOOP, true, 8_300),
+        Pair::new("mixed loop", MIXED, false, 7_000),
+        Pair::new("hardened mixed loop", MIXED, true, 3_500),
+    ];
+    let sources = [
+        Source::new("branches, upward", |nodes| branches(nodes, false)),
+        Source::new("branches, downward", |nodes| branches(nodes, true)),
+        Source::new("one block, downward", |nodes| block(nodes, true)),
+    ];
+    let mut race = Race::default();
+    let mut lines = Vec::new();
+    for pair in &runs {
+        lines.extend(pair.run(&mut race));
     }
-
-    fn at_most(&mut self, what: &str, measured: f64, bar: f64) {
-        self.line(what, measured, &format!("at most {bar}"), measured <= bar);
+    for pair in &runs {
+        if pair.hardened {
+            lines.extend(pair.campaign(&mut race));
+        }
     }
-
-    fn at_least(&mut self, what: &str, measured: f64, bar: f64) {
-        self.line(what, measured, &format!("at least {bar}"), measured >= bar);
+    for source in &sources {
+        lines.extend(source.harden(&mut race));
     }
-
-    /// The growth of time beside the growth of length, which is nearly 2.
-    fn growth(&mut self, what: &str, length: (u32, u32), time: (Duration, Duration)) {
-        let longer = f64::from(length.1) / f64::from(length.0);
-        let what = format!("{what}: time, {longer:.3} times the length");
-        println!("{what:<68} {:>8.2}", ratio(time.1, time.0));
-    }
-}
-
-/// A run of nearly 100,000 steps, and one half as long.
-fn run(report: &mut Report, half: &Case, whole: &Case) {
-    let steps = (same_run(half).steps, same_run(whole).steps);
-    let (mut ours, mut theirs) = (vec![0; ROOM], vec![0; ROOM]);
-    let mut shorter = vec![0; ROOM];
-    let [proved, rust, halved] = race(
-        RUN_TURNS,
-        &mut [
-            &mut || hold(proved::run(black_box(whole), &mut ours, 0)),
-            &mut || hold(rust_run(black_box(whole), &mut theirs)),
-            &mut || hold(proved::run(black_box(half), &mut shorter, 0)),
-        ],
+    let turns = race.run(TIME);
+    println!(
+        "{:<80} {:>8} {:>8}",
+        format!("least times of {turns} turns, at the best place of the stack and the mean"),
+        "best",
+        "mean"
     );
-    let what = format!("run, {}", whole.name);
-    let title = format!("{what}, {} steps: proved / Rust", steps.1);
-    report.at_most(&title, ratio(proved, rust), 1.3);
-    report.growth(&what, steps, (halved, proved));
+    let missed = lines.iter().filter(|line| !line.print(&race)).count();
+    let rerun = rerun(&runs[1]);
+    ExitCode::from(u8::from(!rerun || missed > 0))
 }
 
-/// A campaign of 20,000 positions or more, and one half as long.
-fn campaign(report: &mut Report, half: &Case, whole: &Case) {
-    let positions = (same_score(half).positions, same_score(whole).positions);
-    assert!(positions.1 >= 20_000, "{} positions", positions.1);
+/// One line: what was measured, and what is to be reached.
+struct Line {
+    what: String,
+    measure: Measure,
+    bar: Option<f64>,
+}
+
+enum Measure {
+    Ratio(Entry, Entry),
+    Milliseconds(Entry),
+}
+
+impl Line {
+    fn ratio(what: String, one: Entry, other: Entry, bar: Option<f64>) -> Self {
+        Line {
+            what,
+            measure: Measure::Ratio(one, other),
+            bar,
+        }
+    }
+
+    fn measured(&self, race: &Race, pick: Pick) -> f64 {
+        match self.measure {
+            Measure::Ratio(one, other) => ratio(race.time(one, pick), race.time(other, pick)),
+            Measure::Milliseconds(one) => ratio(race.time(one, pick), Duration::from_millis(1)),
+        }
+    }
+
+    /// Prints both picks; whether the best reached the bar, if there is one.
+    fn print(&self, race: &Race) -> bool {
+        let (best, mean) = (
+            self.measured(race, Pick::Best),
+            self.measured(race, Pick::Mean),
+        );
+        let reached = self.bar.is_none_or(|bar| best <= bar);
+        let verdict = self.bar.map(|bar| verdict("at most", bar, reached));
+        let verdict = verdict.unwrap_or_default();
+        println!("{:<80} {best:>8.2} {mean:>8.2}   {verdict}", self.what);
+        reached
+    }
+}
+
+fn verdict(side: &str, bar: f64, reached: bool) -> String {
+    let word = if reached { "reached" } else { "NOT REACHED" };
+    format!("{side} {bar}: {word}")
+}
+
+/// How many times as long the one took as the other.
+fn ratio(one: Duration, other: Duration) -> f64 {
+    one.as_secs_f64() / other.as_secs_f64()
+}
+
+/// The growth of the time when the length grows from one to the other.
+fn growth(what: &str, lengths: (u32, u32), halved: Entry, whole: Entry) -> Line {
+    let longer = f64::from(lengths.1) / f64::from(lengths.0);
+    let what = format!("{what}: growth of time, {longer:.3} times the length");
+    Line::ratio(what, whole, halved, None)
+}
+
+/// A loop of nearly 100,000 steps, and one of half as many rounds.
+struct Pair {
+    name: &'static str,
+    hardened: bool,
+    half: Case,
+    whole: Case,
+}
+
+impl Pair {
+    fn new(name: &'static str, text: &str, hardened: bool, rounds: u32) -> Self {
+        Pair {
+            name,
+            hardened,
+            half: Case::new(text, hardened, rounds / 2),
+            whole: Case::new(text, hardened, rounds),
+        }
+    }
+
+    fn run<'a>(&'a self, race: &mut Race<'a>) -> [Line; 2] {
+        let steps = (same::run(&self.half), same::run(&self.whole));
+        let mut events = vec![0; ROOM];
+        let proved = race.enter(move || hold(proved::run(black_box(&self.whole), &mut events, 0)));
+        let mut events = vec![0; ROOM];
+        let rust = race.enter(move || hold(rust_run(black_box(&self.whole), &mut events)));
+        let mut events = vec![0; ROOM];
+        let halved = race.enter(move || hold(proved::run(black_box(&self.half), &mut events, 0)));
+        let what = format!("run, {}", self.name);
+        let title = format!("{what}, {} steps: proved / Rust", steps.1);
+        [
+            Line::ratio(title, proved, rust, Some(1.3)),
+            growth(&what, steps, halved, proved),
+        ]
+    }
+
+    fn campaign<'a>(&'a self, race: &mut Race<'a>) -> [Line; 2] {
+        let half = same::campaign(&self.half).positions;
+        let positions = same::campaign(&self.whole).positions;
+        assert!(positions >= 20_000);
+        let mut buffers = Buffers::new();
+        let proved = race.enter(move || hold(buffers.proved(black_box(&self.whole))));
+        let mut buffers = Buffers::new();
+        let rust = race.enter(move || hold(buffers.forked(black_box(&self.whole))));
+        let mut buffers = Buffers::new();
+        let halved = race.enter(move || hold(buffers.proved(black_box(&self.half))));
+        let what = format!("campaign, {}", self.name);
+        let title = format!("{what}, {positions} positions: proved / forked Rust");
+        [
+            Line::ratio(title, proved, rust, Some(1.5)),
+            growth(&what, (half, positions), halved, proved),
+        ]
+    }
+}
+
+/// The campaign with each disturbed run made from the start, once.
+fn rerun(pair: &Pair) -> bool {
     let (mut ours, mut theirs) = (Buffers::new(), Buffers::new());
-    let mut shorter = Buffers::new();
-    let [proved, rust, halved] = race(
-        CAMPAIGN_TURNS,
-        &mut [
-            &mut || hold(ours.proved(black_box(whole))),
-            &mut || hold(theirs.forked(black_box(whole))),
-            &mut || hold(shorter.proved(black_box(half))),
-        ],
-    );
-    let what = format!("campaign, {}", whole.name);
-    let title = format!("{what}, {} positions: proved / forked Rust", positions.1);
-    report.at_most(&title, ratio(proved, rust), 1.5);
-    report.growth(&what, positions, (halved, proved));
+    let began = Instant::now();
+    let score = theirs.rerun(black_box(&pair.whole));
+    let rust = began.elapsed();
+    assert_eq!(same::campaign(&pair.whole), score);
+    let mut race = Race::default();
+    let entry = race.enter(move || hold(ours.proved(black_box(&pair.whole))));
+    race.run(Duration::from_secs(1));
+    let times = ratio(rust, race.time(entry, Pick::Best));
+    let what = format!("campaign, {}: Rust from the start / proved", pair.name);
+    let reached = times >= 100.0;
+    let verdict = verdict("at least", 100.0, reached);
+    println!("{what:<80} {times:>8.0} {:>8}   {verdict}", "");
+    reached
 }
 
-/// The same campaign with each disturbed run made from the start.
-fn rerun(report: &mut Report, case: &Case) {
-    let (mut ours, mut theirs) = (Buffers::new(), Buffers::new());
-    assert_eq!(ours.score(case), theirs.rerun(case));
-    let [proved, rust] = race(
-        RERUN_TURNS,
-        &mut [&mut || hold(ours.proved(black_box(case))), &mut || {
-            hold(theirs.rerun(black_box(case)))
-        }],
-    );
-    let title = format!("campaign, {}: Rust from the start / proved", case.name);
-    report.at_least(&title, ratio(rust, proved), 100.0);
+/// A source of the largest size, and one half as large.
+struct Source {
+    name: &'static str,
+    half: Held,
+    whole: Held,
 }
 
-/// Hardening of the largest source, and of one half as large. The share of a millisecond is the
-/// one time that is printed as such.
-fn harden(report: &mut Report, name: &str, make: impl Fn(u32) -> Held) {
-    let (half, whole) = (make(128), make(256));
-    same_hardening(&half);
-    let hardened = same_hardening(&whole);
-    let (mut ours, mut shorter) = (vec![0; TABLE_WORDS], vec![0; TABLE_WORDS]);
-    let [proved, halved] = race(
-        HARDEN_TURNS,
-        &mut [
-            &mut || hold(proved::harden(black_box(&whole.0), &whole.1, &mut ours)),
-            &mut || hold(proved::harden(black_box(&half.0), &half.1, &mut shorter)),
-        ],
-    );
-    let what = format!("hardening 256 nodes, {name}");
-    let title = format!("{what}, H = {hardened}: milliseconds");
-    report.at_most(&title, ratio(proved, Duration::from_millis(1)), 0.5);
-    report.growth(&what, (128, 256), (halved, proved));
+impl Source {
+    fn new(name: &'static str, make: impl Fn(u32) -> Held) -> Self {
+        Source {
+            name,
+            half: make(128),
+            whole: make(256),
+        }
+    }
+
+    fn harden<'a>(&'a self, race: &mut Race<'a>) -> [Line; 2] {
+        same::harden(&self.half);
+        let nodes = same::harden(&self.whole);
+        let whole = race.enter(hardening(&self.whole));
+        let halved = race.enter(hardening(&self.half));
+        let what = format!("hardening 256 nodes, {}", self.name);
+        let milliseconds = Line {
+            what: format!("{what}, H = {nodes}: milliseconds"),
+            measure: Measure::Milliseconds(whole),
+            bar: Some(0.5),
+        };
+        [milliseconds, growth(&what, (128, 256), halved, whole)]
+    }
+}
+
+fn hardening(source: &Held) -> impl FnMut() + '_ {
+    let mut out = vec![0; TABLE_WORDS];
+    move || hold(proved::harden(black_box(&source.0), &source.1, &mut out))
 }
 
 fn hold<T>(answer: T) {
     black_box(answer);
-}
-
-fn rust_run(case: &Case, events: &mut [u32]) -> Answer {
-    run_fast(
-        &case.graph,
-        &case.table,
-        &case.input,
-        events,
-        case.budget,
-        None,
-    )
-    .expect("a timed run is accepted")
-}
-
-/// The two event buffers of a campaign.
-struct Buffers {
-    first: Vec<u32>,
-    second: Vec<u32>,
-}
-
-impl Buffers {
-    fn new() -> Self {
-        Buffers {
-            first: vec![0; ROOM],
-            second: vec![0; ROOM],
-        }
-    }
-
-    fn proved(&mut self, case: &Case) -> usize {
-        proved::campaign(case, &mut self.first, &mut self.second, 0)
-    }
-
-    fn score(&mut self, case: &Case) -> Score {
-        proved::score(case, &mut self.first, &mut self.second)
-    }
-
-    fn forked(&mut self, case: &Case) -> Score {
-        let (first, second) = (&mut self.first, &mut self.second);
-        let (graph, table, input) = (&case.graph, &case.table, &case.input);
-        campaign_forked(graph, table, input, first, second, case.budget)
-            .expect("a timed campaign is accepted")
-    }
-
-    fn rerun(&mut self, case: &Case) -> Score {
-        let (first, second) = (&mut self.first, &mut self.second);
-        let (graph, table, input) = (&case.graph, &case.table, &case.input);
-        campaign_rerun(graph, table, input, first, second, case.budget)
-            .expect("a timed campaign is accepted")
-    }
-}
-
-/// Both make the same run, answer and events.
-fn same_run(case: &Case) -> Answer {
-    let (mut ours, mut theirs) = (vec![0; ROOM], vec![0; ROOM]);
-    let answer = rust_run(case, &mut theirs);
-    assert_eq!(proved::run_answer(case, &mut ours), answer);
-    assert_eq!(ours, theirs);
-    answer
-}
-
-/// Both give the same score and leave the same buffers.
-fn same_score(case: &Case) -> Score {
-    let (mut ours, mut theirs) = (Buffers::new(), Buffers::new());
-    let score = theirs.forked(case);
-    assert_eq!(ours.score(case), score);
-    assert_eq!(ours.first, theirs.first);
-    assert_eq!(ours.second, theirs.second);
-    score
-}
-
-/// Both write the same hardened table.
-fn same_hardening(source: &Held) -> usize {
-    let (graph, table) = source;
-    let (mut ours, mut theirs) = (vec![0; TABLE_WORDS], vec![0; TABLE_WORDS]);
-    let hardened = second::harden::harden(graph, table, &mut theirs).expect("a source to harden");
-    let nodes = proved::harden(graph, table, &mut ours);
-    assert_eq!(nodes, hardened.nodes as usize);
-    assert_eq!(ours, theirs);
-    nodes
 }
