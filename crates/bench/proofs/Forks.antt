@@ -13,7 +13,7 @@ use Rattle.words.proofs.Puts.{put-over, length-put}
 use Rattle.bench.specs.Steps.{Setting, Progress, going, at}
 use Rattle.bench.specs.Effects.{machineOf}
 use Rattle.bench.specs.Runs.{after, settled}
-use Rattle.bench.specs.Ready.{End, Ready, settingOf, restOf, endedOf}
+use Rattle.bench.specs.Ready.{End, Ends, Ready, settingOf, restOf, endedOf}
 use Rattle.bench.specs.Campaigns.{Class, classOf, prefixOf, tallied}
 use Rattle.bench.specs.Classes.{Few, Shared, classBy, classFor, forkClass}
 use Rattle.bench.proofs.Bounds.{Within, within-after}
@@ -85,7 +85,13 @@ module _ (table inputs reference : List ℕ) (total : ℕ) (buffer : List ℕ) (
   fits : length (fork .machine .events) ≤ length buffer
   fits = rest-fits table s (Inverted (state .branches)) budget state words buffer (budget - state .steps) ready (shared .room) refl
 
-  module _ (made : ended ≡ endedOf fork) (wrote : last ≡ put buffer 0 (fork .machine .events)) where
+  module _ (ends : Ends fork buffer ended last) where
+    made : ended ≡ endedOf fork
+    made = ends .0
+
+    wrote : last ≡ put buffer 0 (fork .machine .events)
+    wrote = ends .1
+
     count : ended .words ≡ length (fork .machine .events)
     count = ap (λ (r : End). r .words) made
 

@@ -11,6 +11,7 @@ use crate::Verdict;
 use crate::runs;
 use graph::Check;
 
+// The answer of a refused run: its number and place, beside a state and a count of zeros.
 fn refused(number: u32, place: usize) -> RunAnswer
     ensures { λ r. ⌜ r ≡ answerOf (refused number place) ⌝ }
 {
