@@ -1,7 +1,7 @@
 -- From a checked table to a campaign: the trial run decides on refusal 13, and what the walk scores is what a campaign answers.
 -- Assumes nothing.
 use mathlib.Core.Path.{_≡_, refl, sym, ap, _∙_}
-use mathlib.Core.Logic.{_⊎_, inl, inr, ⊎-elim}
+use mathlib.Core.Logic.{_⊎_, ⊎-elim}
 use mathlib.Core.List.{List, [], _∷_}
 use Prim.Native.Nat.{ℕ, _-_, _≤_, _<_}
 use native.Mathlib.Omega.{arith}
@@ -13,8 +13,8 @@ use Rattle.words.specs.Answer.{Answer, given, refused, written}
 use Rattle.words.specs.Buffer.{over, put}
 use Rattle.words.proofs.Puts.{length-put}
 use Rattle.graph.specs.Checks.{runnableCheck}
-use Rattle.bench.specs.Steps.{Machine, Setting, Progress, start}
-use Rattle.bench.specs.Runs.{runOf, settled, stateOf, mostSteps}
+use Rattle.bench.specs.Steps.{Machine, Setting, Progress}
+use Rattle.bench.specs.Runs.{runOf, settled, mostSteps}
 use Rattle.bench.specs.Ready.{End, Ends, settingOf, endedOf}
 use Rattle.bench.specs.Campaigns.{campaignOf, scoreBelow, scoreOf, scoreAnswer, campaignAnswer, campaignFirst, campaignSecond}
 use Rattle.bench.proofs.Outcome.{the-type}
@@ -28,7 +28,6 @@ use Rattle.bench.specs.declared.Fault.the-variants.{Undisturbed}
 use Rattle.bench.specs.declared.Outcome.{Outcome}
 use Rattle.bench.specs.declared.Outcome.the-variants.{Returned, Caught, Spent, Full}
 use Rattle.bench.specs.declared.Score.{Score}
-use Rattle.bench.specs.declared.State.{State}
 
 -- a run that ended in any other way than with a value
 no-value : (s : Setting) (entry budget : ℕ) (m : Machine) (o : Outcome) → OneOf (1 ∷ 2 ∷ 3 ∷ []) (tagOf the-type o) → scoreOf s entry budget m o ≡ refused 13 0

@@ -1,24 +1,22 @@
 -- From a checked table to a run: what the loop asks for holds at the start, and what it leaves is what a run answers and writes.
 -- Assumes nothing.
-use mathlib.Core.Path.{_≡_, refl, sym, ap, _∙_, subst}
-use mathlib.Core.Bool.{Bool, true, false}
-use mathlib.Core.List.{List, []}
-use Prim.Native.Nat.{ℕ, _+_, _-_, _*_, _/_, _≤_, _<_}
+use mathlib.Core.Path.{_≡_, refl, subst}
+use mathlib.Core.List.{List}
+use Prim.Native.Nat.{ℕ, _-_, _/_, _≤_, _<_}
 use native.Mathlib.Nat.{sub-zero}
 use native.Mathlib.Omega.{arith}
 use borrow.Author.Tests.{le-leb, lt-leb}
-use lib.ListN.{length, take}
-use Rattle.words.specs.Answer.{Answer, given, refused, demand, andThen, written}
+use lib.ListN.{length}
+use Rattle.words.specs.Answer.{Answer, given, refused, written}
 use Rattle.words.specs.Buffer.{over, put}
 use Rattle.words.proofs.Puts.{put-over}
 use Rattle.graph.specs.Nodes.{Node, go, branch, ret, stop, const, op, input, output, register, constant, nodeAt}
-use Rattle.graph.specs.Accepted.{NodeIn, RunnableGraph}
+use Rattle.graph.specs.Accepted.{NodeIn}
 use Rattle.graph.specs.Checks.{runnableCheck}
 use Rattle.graph.proofs.Facts.{runnable-facts, runnable-room}
-use Rattle.bench.specs.Steps.{Setting, Progress, going, at, start}
-use Rattle.bench.specs.Effects.{machineOf}
-use Rattle.bench.specs.Runs.{after, runOf, settled, stateOf, answerOf, mostSteps, runAnswer, runEvents}
-use Rattle.bench.specs.Ready.{End, Ends, Inside, Ready, settingOf, restOf, endedOf}
+use Rattle.bench.specs.Steps.{Setting, Progress, start}
+use Rattle.bench.specs.Runs.{runOf, stateOf, answerOf, mostSteps, runAnswer, runEvents}
+use Rattle.bench.specs.Ready.{End, Ends, Ready, settingOf, restOf}
 use Rattle.bench.proofs.Bounds.{within}
 use Rattle.bench.specs.declared.Fault.{Fault}
 use Rattle.bench.specs.declared.State.{State}

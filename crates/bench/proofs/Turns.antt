@@ -3,28 +3,28 @@
 use mathlib.Core.Path.{_≡_, refl, sym, ap, _∙_}
 use mathlib.Core.Bool.{Bool, true, false, cond}
 use mathlib.Core.Logic.{_⊎_, inl, inr}
-use mathlib.Core.List.{List, [], _∷_, _++_}
-use Prim.Native.Nat.{ℕ, zero, suc, _+_, _-_, _*_, _≤_, _<_}
+use mathlib.Core.List.{List, _++_}
+use Prim.Native.Nat.{ℕ, _+_, _-_, _≤_, _<_}
 use native.Mathlib.Nat.{sub-self}
 use native.Mathlib.Omega.{arith}
 use lib.ListN.{length, getD, take, drop, length-set, length-append, take-append-drop}
 use lib.Seq.{length-take-le}
 use Rattle.words.specs.Buffer.{put, over}
 use Rattle.words.proofs.Puts.{put-at, put-over, length-put}
-use Rattle.graph.specs.Nodes.{Node, go, branch, ret, stop, const, op, input, output, register, constant, nodeAt}
+use Rattle.graph.specs.Nodes.{Node, go, branch, ret, stop, const, op, input, output, register, nodeAt}
 use Rattle.graph.specs.Accepted.{NodeIn}
 use Rattle.bench.specs.Words.{compare}
-use Rattle.bench.specs.Steps.{Machine, Setting, Status, going, ended, Progress, at, inverts, flip, step}
+use Rattle.bench.specs.Steps.{Setting, Status, going, ended, Progress, at, inverts, flip}
 use Rattle.bench.specs.Effects.{comparand, effectOf, effectFrom, eventWords, hasRoom, statusAfter, applied, machineOf}
 use Rattle.bench.specs.Runs.{next, after, settled}
-use Rattle.bench.specs.Ready.{End, Ends, Inside, Ready, Halted, Proceeds, settingOf, restOf, endedOf, endedWith}
+use Rattle.bench.specs.Ready.{End, Ends, Ready, Halted, Proceeds, settingOf, restOf, endedWith}
 use Rattle.bench.proofs.Bounds.{Counts, counts}
 use Rattle.bench.proofs.Effects.{followed, step-effect}
 use Rattle.bench.proofs.Rounds.{after-none, after-more, next-going, ended-stays}
 use Rattle.bench.specs.declared.Fault.{Fault}
 use Rattle.bench.specs.declared.State.{State}
 use Rattle.bench.specs.declared.Outcome.{Outcome}
-use Rattle.bench.specs.declared.Outcome.the-variants.{Returned, Caught, Spent, Full}
+use Rattle.bench.specs.declared.Outcome.the-variants.{Spent, Full}
 use Rattle.bench.specs.declared.steps.Effect.{Effect}
 
 -- an effect of a node of the graph names a register below 64 and a node of the graph

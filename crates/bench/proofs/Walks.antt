@@ -2,19 +2,19 @@
 -- Assumes nothing.
 use mathlib.Core.Path.{_≡_, refl, sym, ap, _∙_, subst}
 use mathlib.Core.Logic.{_⊎_, inl, inr}
-use mathlib.Core.List.{List, _++_}
-use Prim.Native.Nat.{ℕ, _+_, _-_, _^_, _≤_, _<_}
+use mathlib.Core.List.{List}
+use Prim.Native.Nat.{ℕ, _+_, _-_, _≤_, _<_}
 use native.Mathlib.Omega.{arith}
 use lib.ListN.{length, take, length-append}
 use lib.Seq.{length-take-le, take-at}
 use Rattle.words.proofs.Puts.{length-put}
-use Rattle.bench.specs.Steps.{Machine, Setting, Status, going, Progress, at, start}
+use Rattle.bench.specs.Steps.{Setting, going, Progress, at, start}
 use Rattle.bench.specs.Effects.{machineOf}
 use Rattle.bench.specs.Runs.{after, runOf, settled, stateOf}
 use Rattle.bench.specs.Ready.{End, Ready, Halted, Proceeds, settingOf, restOf, endedOf}
 use Rattle.bench.specs.Campaigns.{classOf, tallied, classAt, scoreBelow}
 use Rattle.bench.specs.Classes.{Shared, Referred, forkClass}
-use Rattle.bench.proofs.Growth.{Grown, grown-after}
+use Rattle.bench.proofs.Growth.{grown-after}
 use Rattle.bench.proofs.Faults.{rest-is-run, fork-is-run}
 use Rattle.bench.proofs.Forks.{take-put-all, rest-fits}
 use Rattle.bench.proofs.Tallies.{score-more}

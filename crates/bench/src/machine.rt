@@ -1,7 +1,6 @@
 // A run of a table: the checks, then the run from the entry.
 ghost use mathlib.Core.Path.{_≡_};
 ghost use lib.ListN.{length};
-ghost use Rattle.words.specs.Answer.{Answer};
 ghost use Rattle.words.specs.Answer.Answer.{refused};
 ghost use Rattle.bench.specs.Runs.{answerOf, runAnswer, runEvents};
 use crate::Fault;
