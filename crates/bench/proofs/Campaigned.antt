@@ -15,11 +15,12 @@ use Rattle.words.proofs.Puts.{length-put}
 use Rattle.graph.specs.Checks.{runnableCheck}
 use Rattle.bench.specs.Steps.{Machine, Setting, Progress, start}
 use Rattle.bench.specs.Runs.{runOf, settled, stateOf, mostSteps}
-use Rattle.bench.specs.Ready.{settingOf, restOf, endedOf}
+use Rattle.bench.specs.Ready.{End, settingOf, endedOf}
 use Rattle.bench.specs.Campaigns.{campaignOf, scoreBelow, scoreOf, scoreAnswer, campaignAnswer, campaignFirst, campaignSecond}
 use Rattle.bench.proofs.Outcome.{the-type}
 use Rattle.bench.proofs.Bounds.{within}
-use Rattle.bench.proofs.Checked.{rest-of-start, events-over}
+use Rattle.bench.specs.Classes.{Reference}
+use Rattle.bench.proofs.Checked.{events-over}
 use Rattle.bench.proofs.Forks.{take-put-all}
 use Rattle.bench.specs.declared.CampaignAnswer.{CampaignAnswer}
 use Rattle.bench.specs.declared.CampaignAnswer.the-variants.{Scored, Refused}
@@ -28,7 +29,6 @@ use Rattle.bench.specs.declared.Outcome.{Outcome}
 use Rattle.bench.specs.declared.Outcome.the-variants.{Returned, Caught, Spent, Full}
 use Rattle.bench.specs.declared.Score.{Score}
 use Rattle.bench.specs.declared.State.{State}
-use Rattle.bench.specs.declared.runs.Ended.{Ended}
 
 -- a run that ended in any other way than with a value
 no-value : (s : Setting) (entry budget : ℕ) (m : Machine) (o : Outcome) → OneOf (1 ∷ 2 ∷ 3 ∷ []) (tagOf the-type o) → scoreOf s entry budget m o ≡ refused 13 0
@@ -56,47 +56,36 @@ module _ (table inputs first second : List ℕ) (entry budget : ℕ) where
   reports r e = rw e (refl, (refl, refl))
 
   -- a trial run that does not return
-  pub scored-none : (nowhere : List ℕ) (from : State) (trial : Ended) → from ≡ stateOf (start entry) → trial ≡ endedOf (restOf s Undisturbed from 0 nowhere (budget - from .steps))
-      → OneOf (1 ∷ 2 ∷ 3 ∷ []) (tagOf the-type (trial .outcome)) → Reports (Refused 13 0) first second
-  scored-none nowhere from trial e made other =
-      let ends : trial .outcome ≡ settled (run .status) = ap (λ (r : Ended). r .outcome) (made ∙ ap endedOf (rest-of-start s Undisturbed entry nowhere budget from e)) in
+  pub scored-none : (trial : End) → trial ≡ endedOf run → OneOf (1 ∷ 2 ∷ 3 ∷ []) (tagOf the-type (trial .outcome)) → Reports (Refused 13 0) first second
+  scored-none trial made other =
+      let ends : trial .outcome ≡ settled (run .status) = ap (λ (r : End). r .outcome) made in
       reports (Refused 13 0) (no-value s entry budget (run .machine) (settled (run .status)) (rw ends at other))
 
-  -- what the second run leaves in the first buffer
-  pub record Kept (total : ℕ) (last : List ℕ) : Type 0 where
-    pub whole : total ≤ length last
-    pub events : take total last ≡ run .machine .events
-    pub over-first : last ≡ over (run .machine .events) first
+  module _ (ended : End) (last : List ℕ) (made : ended ≡ endedOf run) (wrote : last ≡ put first 0 (run .machine .events)) where
+    -- the reference lies in the first buffer
+    pub reference-made : length first ≡ length second → Reference (settingOf table inputs (length second)) entry budget last (ended .words) (ended .state .branches)
+    reference-made same =
+        let count : ended .words ≡ length (run .machine .events) = ap (λ (r : End). r .words) made in
+        let size = ap length wrote ∙ length-put first 0 (run .machine .events) in
+        let fits : length (run .machine .events) ≤ length first = within s Undisturbed entry budget .events in
+        rw (← same)
+        (record {
+          whole = omega arith;
+          events = ap (take (ended .words)) wrote ∙ take-put-all first (run .machine .events) (ended .words) fits count;
+          branches = ap (λ (r : End). r .state .branches) made;
+        })
 
-  pub reference-kept : (from : State) (reference : Ended) (last : List ℕ) → from ≡ stateOf (start entry)
-      → reference ≡ endedOf (restOf s Undisturbed from 0 first (budget - from .steps)) → last ≡ put first 0 (restOf s Undisturbed from 0 first (budget - from .steps) .machine .events)
-      → Kept (reference .words) last
-  reference-kept from reference last e made wrote =
-      let rest = rest-of-start s Undisturbed entry first budget from e in
-      let count : reference .words ≡ length (run .machine .events) = ap (λ (r : Ended). r .words) (made ∙ ap endedOf rest) in
-      let puts : last ≡ put first 0 (run .machine .events) = wrote ∙ ap (λ (p : Progress). put first 0 (p .machine .events)) rest in
-      let size = ap length puts ∙ length-put first 0 (run .machine .events) in
-      let fits : length (run .machine .events) ≤ length first = within s Undisturbed entry budget .events in
-      record {
-        whole = omega arith;
-        events = ap (take (reference .words)) puts ∙ take-put-all first (run .machine .events) (reference .words) fits count;
-        over-first = puts ∙ events-over s Undisturbed entry budget first refl;
-      }
-
-  -- a trial run that returned a value
-  module _ (nowhere : List ℕ) (from : State) (trial : Ended) (value : ℕ) (e : from ≡ stateOf (start entry)) (made : trial ≡ endedOf (restOf s Undisturbed from 0 nowhere (budget - from .steps))) (returned : trial .outcome ≡ Returned value) where
-    answered : scoreAnswer s entry budget ≡ given (scoreBelow s entry budget value (run .machine .events) (run .machine .branches))
-    answered =
-        let ends : trial .outcome ≡ settled (run .status) = ap (λ (r : Ended). r .outcome) (made ∙ ap endedOf (rest-of-start s Undisturbed entry nowhere budget from e)) in
-        ap (scoreOf s entry budget (run .machine)) (sym ends ∙ returned)
-
-    pub scored-some : (total n : ℕ) (last cleared : List ℕ) (score : Score) → length first ≡ length second → Kept total last
-        → score ≡ scoreBelow (settingOf table inputs (length second)) entry budget value (take total last) (runOf (settingOf table inputs (length second)) Undisturbed entry budget .machine .branches)
-        → n ≡ length second → cleared ≡ replicate n 0 → Reports (Scored score) last cleared
-    scored-some total n last cleared score size kept scores same clears =
+    -- a trial run that returned a value, and the score of its branches
+    pub scored-some : (trial : End) (value : ℕ) → trial ≡ endedOf run → trial .outcome ≡ Returned value → length first ≡ length second
+        → (score : Score) → score ≡ scoreBelow (settingOf table inputs (length second)) entry budget value (take (ended .words) last) (ended .state .branches)
+        → (n : ℕ) (cleared : List ℕ) → n ≡ length second → cleared ≡ replicate n 0 → Reports (Scored score) last cleared
+    scored-some trial value tries returned same score scores n cleared size clears =
+        let ends : settled (run .status) ≡ Returned value = sym (ap (λ (r : End). r .outcome) tries) ∙ returned in
+        let r = reference-made same in
         let is : scoreBelow s entry budget value (run .machine .events) (run .machine .branches) ≡ score =
-        sym (scores ∙ (rw (← size, kept .events))) in
-        rw (kept .over-first, clears, same) (reports (Scored score) (answered ∙ ap given is))
+        sym (scores ∙ (rw (r .events, r .branches, ← same))) in
+        rw (wrote, events-over s Undisturbed entry budget first refl, clears, size)
+        (reports (Scored score) (ap (scoreOf s entry budget (run .machine)) ends ∙ ap given is))
 
 module _ (registers nodes entry : ℕ) (table inputs first second : List ℕ) (budget : ℕ) where
   abbrev pub Campaigns : CampaignAnswer → List ℕ → List ℕ → Type 0

@@ -18,13 +18,12 @@ use Rattle.graph.proofs.Facts.{runnable-facts, runnable-room}
 use Rattle.bench.specs.Steps.{Setting, Progress, going, at, start}
 use Rattle.bench.specs.Effects.{machineOf}
 use Rattle.bench.specs.Runs.{after, runOf, settled, stateOf, answerOf, mostSteps, runAnswer, runEvents}
-use Rattle.bench.specs.Ready.{Inside, Ready, settingOf, restOf, endedOf}
+use Rattle.bench.specs.Ready.{End, Inside, Ready, settingOf, restOf, endedOf}
 use Rattle.bench.proofs.Bounds.{within}
 use Rattle.bench.specs.declared.Fault.{Fault}
 use Rattle.bench.specs.declared.State.{State}
 use Rattle.bench.specs.declared.RunAnswer.{RunAnswer}
 use Rattle.bench.specs.declared.Verdict.the-variants.{Ran}
-use Rattle.bench.specs.declared.runs.Ended.{Ended}
 
 -- registers below R are below 64
 node-in-more : (registers nodes : ℕ) → registers ≤ 64 → (node : Node) → NodeIn registers nodes node → NodeIn 64 nodes node
@@ -50,15 +49,21 @@ ready-start registers nodes entry table budget ok =
         room = runnable-room registers nodes entry table ok;
         node-in = λ (n : ℕ) (h : n < nodes). node-in-more registers nodes (facts .few-registers) (nodeAt table n) (facts .node-in n h);
       };
+      registers = refl;
       in-budget = omega arith;
       branches = omega arith;
       reads = omega arith;
     }
 
 -- from the start, all rounds of the budget are left
-pub rest-of-start : (s : Setting) (fault : Fault) (entry : ℕ) (buffer : List ℕ) (budget : ℕ) (from : State) → from ≡ stateOf (start entry) → restOf s fault from 0 buffer (budget - from .steps) ≡ runOf s fault entry budget
+pub from-start : (s : Setting) (fault : Fault) (entry : ℕ) (buffer : List ℕ) (budget : ℕ) (from : State) (words : ℕ) → from ≡ stateOf (start entry) → words ≡ 0
+    → (r : End) → r ≡ endedOf (restOf s fault from words buffer (budget - from .steps)) → (last : List ℕ) → last ≡ put buffer 0 (restOf s fault from words buffer (budget - from .steps) .machine .events)
+    → (r ≡ endedOf (runOf s fault entry budget)) × (last ≡ put buffer 0 (runOf s fault entry budget .machine .events))
 unfolding restOf runOf start
-rest-of-start s fault entry buffer budget from e = rw (e, sub-zero)
+from-start s fault entry buffer budget from words e none r ended last wrote = (ended ∙ ap endedOf run, wrote ∙ ap (λ (p : Progress). put buffer 0 (p .machine .events)) run)
+  where
+    run : restOf s fault from words buffer (budget - from .steps) ≡ runOf s fault entry budget
+    run = rw (e, none, sub-zero)
 
 -- the events of a run lie over the first words of a buffer that has room for them
 pub events-over : (s : Setting) (fault : Fault) (entry budget : ℕ) (buffer : List ℕ) → s .room ≡ length buffer → put buffer 0 (runOf s fault entry budget .machine .events) ≡ over (runOf s fault entry budget .machine .events) buffer
@@ -84,14 +89,13 @@ module _ (registers nodes entry : ℕ) (table inputs buffer : List ℕ) (budget 
   unfolding runAnswer
   run-twelve e ok h = rw e (answers (refused 12 0) (rw (ok, lt-leb budget mostSteps h)))
 
-  -- how the loop ended is the run's answer
-  pub run-made : (from : State) (ended : Ended) (last : List ℕ) → runnableCheck registers nodes entry table ≡ given tt → budget ≤ mostSteps → from ≡ stateOf (start entry)
-      → ended ≡ endedOf (restOf (settingOf table inputs (length buffer)) fault from 0 buffer (budget - from .steps))
-      → last ≡ put buffer 0 (restOf (settingOf table inputs (length buffer)) fault from 0 buffer (budget - from .steps) .machine .events)
+  -- how the run ended is the answer
+  pub run-made : (ended : End) (last : List ℕ) → runnableCheck registers nodes entry table ≡ given tt → budget ≤ mostSteps
+      → ended ≡ endedOf (runOf (settingOf table inputs (length buffer)) fault entry budget)
+      → last ≡ put buffer 0 (runOf (settingOf table inputs (length buffer)) fault entry budget .machine .events)
       → Answers (record { verdict = Ran (ended .outcome); state = ended .state; events = ended .words / 2 }) last
   unfolding runAnswer
-  run-made from ended last ok h e made wrote =
+  run-made ended last ok h made wrote =
       let s = settingOf table inputs (length buffer) in
-      let run = rest-of-start s fault entry buffer budget from e in
-      rw (made, wrote, run, events-over s fault entry budget buffer refl)
+      rw (made, wrote, events-over s fault entry budget buffer refl)
       (answers (given (runOf s fault entry budget)) (rw (ok, le-leb budget mostSteps h)))

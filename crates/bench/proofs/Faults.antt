@@ -48,17 +48,21 @@ module _ (s : Setting) (place : ℕ) where
   unfolding runOf
   unreached entry budget h = unreached-after (at (start entry) going) budget h
 
+-- what is left of a run from a state that it comes to is the run
+pub rest-is-run : (s : Setting) (fault : Fault) (entry : ℕ) (state : State) (words : ℕ) (buffer : List ℕ)
+    → runOf s fault entry (state .steps) ≡ at (machineOf state (take words buffer)) going
+    → (rounds : ℕ) → restOf s fault state words buffer rounds ≡ runOf s fault entry (state .steps + rounds)
+unfolding restOf runOf
+rest-is-run s fault entry state words buffer here rounds =
+    sym (after-add s fault (at (start entry) going) (state .steps) rounds ∙ ap (λ (q : Progress). after s fault q rounds) here)
+
 -- what is left of the undisturbed run, its next branch inverted, is the run with that branch inverted
 pub fork-is-run : (s : Setting) (entry budget : ℕ) (state : State) (words : ℕ) (buffer : List ℕ) → state .steps ≤ budget
     → runOf s Undisturbed entry (state .steps) ≡ at (machineOf state (take words buffer)) going
     → restOf s (Inverted (state .branches)) state words buffer (budget - state .steps) ≡ runOf s (Inverted (state .branches)) entry budget
-unfolding restOf runOf
 fork-is-run s entry budget state words buffer h here =
     let fault = Inverted (state .branches) in
-    let p = at (start entry) going in
-    let split : budget ≡ state .steps + (budget - state .steps) = omega arith in
-    let few : after s Undisturbed p (state .steps) .machine .branches ≤ state .branches = rw here (omega arith) in
-    sym
-    (ap (after s fault p) split
-    ∙ after-add s fault p (state .steps) (budget - state .steps)
-    ∙ ap (λ (q : Progress). after s fault q (budget - state .steps)) (unreached-after s (state .branches) p (state .steps) few ∙ here))
+    let all : state .steps + (budget - state .steps) ≡ budget = omega arith in
+    let few : runOf s Undisturbed entry (state .steps) .machine .branches ≤ state .branches = rw here (omega arith) in
+    rest-is-run s fault entry state words buffer (unreached s (state .branches) entry (state .steps) few ∙ here) (budget - state .steps)
+    ∙ ap (runOf s fault entry) all

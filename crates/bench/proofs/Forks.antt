@@ -5,7 +5,6 @@ use mathlib.Core.Bool.{Bool, true, false, cond, _&&_}
 use mathlib.Core.List.{List, [], _∷_, _++_}
 use Prim.Native.Nat.{ℕ, _+_, _-_, _≤_, _<_}
 use native.Mathlib.Omega.{arith}
-use borrow.Author.Tests.{eq-eqb, ne-eqb}
 use lib.Dec.{eqb}
 use lib.ListN.{length, take, drop, length-append}
 use lib.Seq.{length-take-le, take-at, take-append-le}
@@ -14,7 +13,7 @@ use Rattle.words.proofs.Puts.{put-over, length-put}
 use Rattle.bench.specs.Steps.{Setting, Progress, going, at}
 use Rattle.bench.specs.Effects.{machineOf}
 use Rattle.bench.specs.Runs.{after, settled}
-use Rattle.bench.specs.Ready.{Ready, settingOf, restOf, endedOf}
+use Rattle.bench.specs.Ready.{End, Ready, settingOf, restOf, endedOf}
 use Rattle.bench.specs.Campaigns.{Class, classOf, prefixOf, tallied}
 use Rattle.bench.specs.Classes.{Few, Shared, classBy, classFor, forkClass}
 use Rattle.bench.proofs.Bounds.{Within, within-after}
@@ -26,7 +25,6 @@ use Rattle.bench.specs.declared.State.{State}
 use Rattle.bench.specs.declared.Outcome.{Outcome}
 use Rattle.bench.specs.declared.Outcome.the-variants.{Returned, Caught, Spent, Full}
 use Rattle.bench.specs.declared.Score.{Score}
-use Rattle.bench.specs.declared.runs.Ended.{Ended}
 
 -- what was put at the front is found there
 pub take-put : (l ws : List ℕ) (n : ℕ) → length ws ≤ length l → n ≤ length ws → take n (put l 0 ws) ≡ take n ws
@@ -77,7 +75,7 @@ class-by value reference Caught events = refl
 class-by value reference Spent events = refl
 class-by value reference Full events = refl
 
-module _ (table inputs reference : List ℕ) (total : ℕ) (buffer : List ℕ) (budget : ℕ) (state : State) (words : ℕ) (ready : Ready table budget state) (shared : Shared reference total buffer words) (ended : Ended) (last : List ℕ) where
+module _ (table inputs reference : List ℕ) (total : ℕ) (buffer : List ℕ) (budget : ℕ) (state : State) (words : ℕ) (ready : Ready table budget state) (shared : Shared reference total buffer words) (ended : End) (last : List ℕ) where
   abbrev s : Setting
   s = settingOf table inputs (length buffer)
 
@@ -89,7 +87,7 @@ module _ (table inputs reference : List ℕ) (total : ℕ) (buffer : List ℕ) (
 
   module _ (made : ended ≡ endedOf fork) (wrote : last ≡ put buffer 0 (fork .machine .events)) where
     count : ended .words ≡ length (fork .machine .events)
-    count = ap (λ (r : Ended). r .words) made
+    count = ap (λ (r : End). r .words) made
 
     pub fork-fits : ended .words ≤ length last
     fork-fits =
@@ -124,14 +122,6 @@ module _ (table inputs reference : List ℕ) (total : ℕ) (buffer : List ℕ) (
       unfolding forkClass
       fork-class value class c =
           let whole = length-take-le total reference (shared .whole) in
-          let outcome = ap (λ (r : Ended). r .outcome) made in
+          let outcome = ap (λ (r : End). r .outcome) made in
           c ∙ (rw (prefix-all, count, outcome, whole))
           ∙ sym (class-by value (take total reference) (settled (fork .status)) (fork .machine .events))
-
--- a step that is a branch is tried, another not
-pub tried-none : (branches : ℕ) (score other : Score) → branches ≡ 0 → score ≡ cond (eqb branches 0) score other
-tried-none branches score other e = rw (eq-eqb branches 0 e)
-
-pub tried-one : (branches : ℕ) (score r : Score) (class k : Class) → (branches ≡ 0 → ⊥) → r ≡ tallied class score → class ≡ k
-    → r ≡ cond (eqb branches 0) score (tallied k score)
-tried-one branches score r class k e t c = rw (ne-eqb branches 0 e) (t ∙ ap (λ (k : Class). tallied k score) c)

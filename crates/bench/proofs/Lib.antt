@@ -12,3 +12,5 @@ pub mod Forks
 pub mod Tallies
 pub mod Walks
 pub mod Campaigned
+pub mod Signed
+pub mod Accepted

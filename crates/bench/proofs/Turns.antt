@@ -2,11 +2,12 @@
 -- Assumes nothing.
 use mathlib.Core.Path.{_≡_, refl, sym, ap, _∙_}
 use mathlib.Core.Bool.{Bool, true, false, cond}
+use mathlib.Core.Logic.{_⊎_, inl, inr}
 use mathlib.Core.List.{List, [], _∷_, _++_}
 use Prim.Native.Nat.{ℕ, zero, suc, _+_, _-_, _*_, _≤_, _<_}
 use native.Mathlib.Nat.{sub-self}
 use native.Mathlib.Omega.{arith}
-use lib.ListN.{length, getD, take, drop, length-append, take-append-drop}
+use lib.ListN.{length, getD, take, drop, length-set, length-append, take-append-drop}
 use lib.Seq.{length-take-le}
 use Rattle.words.specs.Buffer.{put, over}
 use Rattle.words.proofs.Puts.{put-at, put-over, length-put}
@@ -16,7 +17,7 @@ use Rattle.bench.specs.Words.{compare}
 use Rattle.bench.specs.Steps.{Machine, Setting, Status, going, ended, Progress, at, inverts, flip, step}
 use Rattle.bench.specs.Effects.{comparand, effectOf, effectFrom, eventWords, hasRoom, statusAfter, applied, machineOf}
 use Rattle.bench.specs.Runs.{next, after, settled}
-use Rattle.bench.specs.Ready.{Inside, Ready, settingOf, restOf, endedOf}
+use Rattle.bench.specs.Ready.{End, Inside, Ready, Halted, Proceeds, settingOf, restOf, endedOf, endedWith}
 use Rattle.bench.proofs.Bounds.{Counts, counts}
 use Rattle.bench.proofs.Effects.{followed, step-effect}
 use Rattle.bench.proofs.Rounds.{after-none, after-more, next-going, ended-stays}
@@ -24,7 +25,6 @@ use Rattle.bench.specs.declared.Fault.{Fault}
 use Rattle.bench.specs.declared.State.{State}
 use Rattle.bench.specs.declared.Outcome.{Outcome}
 use Rattle.bench.specs.declared.Outcome.the-variants.{Returned, Caught, Spent, Full}
-use Rattle.bench.specs.declared.runs.Ended.{Ended}
 use Rattle.bench.specs.declared.steps.Effect.{Effect}
 
 -- an effect of a node of the graph names a register below 64 and a node of the graph
@@ -76,10 +76,15 @@ module _ (table inputs : List ℕ) (room budget : ℕ) (fault : Fault) (state : 
       let m = small ready eq in
       record {
         inside = record { nodes = i .nodes; inside = m .next; room = i .room; node-in = i .node-in };
+        registers = length-set (state .registers) (e .register) (e .value) ∙ ready .registers;
         in-budget = omega arith;
         branches = omega arith;
         reads = omega arith;
       }
+
+-- a run that goes on from a state, the words of its events at the head of a buffer
+abbrev pub going-at : State → ℕ → List ℕ → Progress
+going-at state words buffer = at (machineOf state (take words buffer)) going
 
 -- the words at the head of a buffer, put there, change nothing
 pub put-take : (l : List ℕ) (n : ℕ) → n ≤ length l → put l 0 (take n l) ≡ l
@@ -100,7 +105,7 @@ module _ (s : Setting) (fault : Fault) (p : Progress) (buffer : List ℕ) where
   reached-length r = ap length (r .holds) ∙ length-put buffer 0 (r .events)
 
   -- the run has ended so after n rounds
-  abbrev pub EndsAs : ℕ → Ended → List ℕ → Type 0
+  abbrev pub EndsAs : ℕ → End → List ℕ → Type 0
   EndsAs n r held = (r ≡ endedOf (after s fault p n)) × (held ≡ put buffer 0 (after s fault p n .machine .events))
 
   ends-as : (n : ℕ) (state : State) (events : List ℕ) (status : Status) (words : ℕ) (held : List ℕ) → after s fault p n ≡ at (machineOf state events) status → length events ≡ words → held ≡ put buffer 0 events → EndsAs n (record { outcome = settled status; state = state; words = words }) held
@@ -148,7 +153,7 @@ module _ (s : Setting) (fault : Fault) (p : Progress) (buffer : List ℕ) where
       ends-as n state (r .events) going words held (ap (after s fault p) (sym h) ∙ r .here) (r .count) (r .holds)
 
 -- before the first turn
-pub turn-first : (s : Setting) (fault : Fault) (buffer : List ℕ) (state : State) (words : ℕ) → words ≤ length buffer → Reached s fault (at (machineOf state (take words buffer)) going) buffer (state .steps - state .steps) state words buffer
+pub turn-first : (s : Setting) (fault : Fault) (buffer : List ℕ) (state : State) (words : ℕ) → words ≤ length buffer → Reached s fault (going-at state words buffer) buffer (state .steps - state .steps) state words buffer
 turn-first s fault buffer state words h =
     record {
       events = take words buffer;
@@ -156,3 +161,40 @@ turn-first s fault buffer state words h =
       count = length-take-le words buffer h;
       holds = sym (put-take buffer words h);
     }
+
+module _ (table inputs : List ℕ) (room : ℕ) (fault : Fault) (from : State) (words : ℕ) (buffer : List ℕ) (budget until : ℕ) where
+  -- a run that goes no further
+  pub proceeds-whole : (r : End) (last : List ℕ) → r .state .branches ≤ until → EndsAs (settingOf table inputs room) fault (going-at from words buffer) buffer (budget - from .steps) r last
+      → Proceeds table inputs room fault from words buffer budget until r last
+  unfolding restOf
+  proceeds-whole r last h ends =
+      record { rounds = budget - from .steps; ended = ends .0; wrote = ends .1; within = h; stands = inl refl }
+
+  -- a run that is halted at a branch
+  pub proceeds-halted : (state : State) (words′ : ℕ) (held : List ℕ) → Ready table budget state → from .steps ≤ state .steps
+      → Reached (settingOf table inputs room) fault (going-at from words buffer) buffer (state .steps - from .steps) state words′ held
+      → state .steps < budget → state .branches ≡ until → Proceeds table inputs room fault from words buffer budget until (endedWith Spent state words′) held
+  unfolding restOf
+  proceeds-halted state words′ held ready later r below at-until =
+      let rounds = state .steps - from .steps in
+      let s = settingOf table inputs room in
+      let ends = turn-none s fault (going-at from words buffer) buffer rounds rounds state words′ held r refl in
+      record {
+        rounds = rounds;
+        ended = ends .0;
+        wrote = ends .1;
+        within = omega arith;
+        stands = inr (rw (r .here) (record { ready = ready; below = below; branches = at-until; steps = omega arith; status = refl }));
+      }
+
+-- a run that may execute as many branches as it has steps is not halted
+pub finish-whole : (table inputs : List ℕ) (room : ℕ) (fault : Fault) (from : State) (words : ℕ) (buffer : List ℕ) (budget : ℕ) (r : End) (last : List ℕ) → Proceeds table inputs room fault from words buffer budget budget r last
+    → (r ≡ endedOf (restOf (settingOf table inputs room) fault from words buffer (budget - from .steps)))
+    × (last ≡ put buffer 0 (restOf (settingOf table inputs room) fault from words buffer (budget - from .steps) .machine .events))
+finish-whole table inputs room fault from words buffer budget r last p = by (p .stands)
+  where
+    by : (p .rounds ≡ budget - from .steps) ⊎ Halted table budget budget from (p .rounds) (restOf (settingOf table inputs room) fault from words buffer (p .rounds))
+        → (r ≡ endedOf (restOf (settingOf table inputs room) fault from words buffer (budget - from .steps)))
+        × (last ≡ put buffer 0 (restOf (settingOf table inputs room) fault from words buffer (budget - from .steps) .machine .events))
+    by (inl e) = rw (← e) (p .ended, p .wrote)
+    by (inr h) = absurd (omega (arith, h .ready .branches, h .branches, h .below))

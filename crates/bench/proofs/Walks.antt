@@ -1,167 +1,119 @@
--- The walk of the reference: what its loop knows before and after a turn, and that a fork at each branch scores every branch of the run.
+-- The walk of the reference from branch to branch, and that a fork at each scores every branch of the run.
 -- Assumes nothing.
-use mathlib.Core.Path.{_≡_, refl, sym, ap, _∙_}
-use mathlib.Core.Bool.{Bool, true, false, cond}
+use mathlib.Core.Path.{_≡_, refl, sym, ap, _∙_, subst}
+use mathlib.Core.Logic.{_⊎_, inl, inr}
 use mathlib.Core.List.{List, _++_}
-use Prim.Native.Nat.{ℕ, zero, suc, _+_, _-_, _^_, _≤_, _<_}
-use native.Mathlib.Nat.{add-zero}
+use Prim.Native.Nat.{ℕ, _+_, _-_, _^_, _≤_, _<_}
 use native.Mathlib.Omega.{arith}
-use borrow.Author.Tests.{eq-eqb, ne-eqb}
-use lib.Dec.{eqb}
-use lib.ListN.{length, take, drop, length-append}
+use lib.ListN.{length, take, length-append}
 use lib.Seq.{length-take-le, take-at}
-use Rattle.words.specs.Buffer.{put}
 use Rattle.words.proofs.Puts.{length-put}
-use Rattle.bench.specs.Steps.{Machine, Setting, Status, going, ended, Progress, at, start}
-use Rattle.bench.specs.Effects.{machineOf, applied, effectFrom, eventWords, hasRoom, statusAfter}
+use Rattle.bench.specs.Steps.{Machine, Setting, Status, going, Progress, at, start}
+use Rattle.bench.specs.Effects.{machineOf}
 use Rattle.bench.specs.Runs.{after, runOf, settled, stateOf}
-use Rattle.bench.specs.Ready.{Ready, settingOf, restOf, endedOf}
-use Rattle.bench.specs.Campaigns.{Class, classOf, tallied, classAt, scoreBelow}
-use Rattle.bench.specs.Classes.{Few, Shared, forkClass}
-use Rattle.bench.proofs.Bounds.{Within, within}
+use Rattle.bench.specs.Ready.{End, Ready, Halted, Proceeds, settingOf, restOf, endedOf}
+use Rattle.bench.specs.Campaigns.{classOf, tallied, classAt, scoreBelow}
+use Rattle.bench.specs.Classes.{Shared, Reference, forkClass}
 use Rattle.bench.proofs.Growth.{Grown, grown-after}
-use Rattle.bench.proofs.Rounds.{after-add}
-use Rattle.bench.proofs.Faults.{fork-is-run}
-use Rattle.bench.proofs.Turns.{Reached, reached-length, put-take, small, ready-applied, turn-full, turn-on, turn-end, turn-none}
-use Rattle.bench.proofs.Forks.{take-put-all}
-use Rattle.bench.proofs.Tallies.{score-none, score-more, score-few}
-use Rattle.bench.specs.declared.Fault.the-variants.{Undisturbed, Inverted}
+use Rattle.bench.proofs.Faults.{rest-is-run, fork-is-run}
+use Rattle.bench.proofs.Forks.{take-put-all, rest-fits}
+use Rattle.bench.proofs.Tallies.{score-more}
+use Rattle.bench.specs.declared.Fault.the-variants.{Undisturbed}
 use Rattle.bench.specs.declared.State.{State}
-use Rattle.bench.specs.declared.Outcome.{Outcome}
-use Rattle.bench.specs.declared.Outcome.the-variants.{Spent, Full}
 use Rattle.bench.specs.declared.Score.{Score}
-use Rattle.bench.specs.declared.steps.Effect.{Effect}
-use Rattle.bench.specs.declared.runs.Ended.{Ended}
 
--- the events after fewer rounds are the first of those after more
-pub run-part : (s : Setting) (entry k n : ℕ) (m : Machine) (status : Status) → k ≤ n → runOf s Undisturbed entry k ≡ at m status → Grown m (runOf s Undisturbed entry n .machine)
-unfolding runOf
-run-part s entry k n m status h here =
-    let p = at (start entry) going in
-    let split : n ≡ k + (n - k) = omega arith in
-    let rest = ap (after s Undisturbed p) split ∙ after-add s Undisturbed p k (n - k) ∙ ap (λ (q : Progress). after s Undisturbed q (n - k)) here in
-    rw rest (grown-after s Undisturbed (at m status) (n - k))
-
-module _ (table inputs : List ℕ) (room entry budget value : ℕ) (reference : List ℕ) where
+module _ (table inputs : List ℕ) (room entry budget : ℕ) where
   abbrev s : Setting
   s = settingOf table inputs room
 
-  abbrev final : Machine
-  final = runOf s Undisturbed entry budget .machine
-
-  -- the walk has come to a state, with the words of its events at the head of a buffer, and every branch before it is scored
-  pub record Walked (state : State) (words : ℕ) (held : List ℕ) (score : Score) : Type 0 where
+  -- the walk stands before the branch at a place, with the words of its events at the head of a buffer
+  pub record Walked (place : ℕ) (state : State) (words : ℕ) (held : List ℕ) : Type 0 where
     pub ready : Ready table budget state
     pub here : runOf s Undisturbed entry (state .steps) ≡ at (machineOf state (take words held)) going
+    pub branches : state .branches ≡ place
     pub fits : words ≤ length held
     pub kept : length held ≡ room
-    pub scored : score ≡ scoreBelow s entry budget value reference (state .branches)
 
-  module _ (state : State) (words : ℕ) (held : List ℕ) (score : Score) (w : Walked state words held score) where
-    -- what a fork asks for
-    pub walked-shared : (buffer : List ℕ) (total : ℕ) → total ≤ length buffer → take total buffer ≡ final .events → Shared buffer total held words
-    walked-shared buffer total h r =
-        let g = run-part s entry (state .steps) budget _ going (w .ready .in-budget) (w .here) in
+  pub walk-start : (held : List ℕ) → length held ≡ room → Ready table budget (stateOf (start entry)) → Walked 0 (stateOf (start entry)) 0 held
+  unfolding runOf start after
+  walk-start held h ready = record { ready = ready; here = refl; branches = refl; fits = omega arith; kept = h }
+
+  module _ (place : ℕ) (state : State) (words : ℕ) (held : List ℕ) (w : Walked place state words held) where
+    -- the events so far are the first of the reference
+    pub walk-shared : (buffer : List ℕ) (total positions : ℕ) → Reference s entry budget buffer total positions → Shared buffer total held words
+    unfolding restOf
+    walk-shared buffer total positions r =
+        let left = budget - state .steps in
+        let ready = w .ready in
+        let all : state .steps + left ≡ budget = omega arith in
+        let rest = rest-is-run s Undisturbed entry state words held (w .here) left ∙ ap (runOf s Undisturbed entry) all in
+        let g = grown-after s Undisturbed (at (machineOf state (take words held)) going) left in
+        let events = r .events ∙ ap (λ (p : Progress). p .machine .events) (sym rest) ∙ g .events in
         let count = length-take-le words held (w .fits) in
-        let all = ap length r ∙ ap length (g .events) ∙ length-append (take words held) (g .more) in
-        let size = length-take-le total buffer h in
+        let longer = ap length events ∙ length-append (take words held) (g .more) in
+        let size = length-take-le total buffer (r .whole) in
         record {
-          whole = h;
+          whole = r .whole;
           part = omega arith;
           room = w .fits;
-          same = sym (ap (take words) (r ∙ g .events) ∙ take-at (take words held) (g .more) words count);
+          same = sym (ap (take words) events ∙ take-at (take words held) (g .more) words count);
         }
 
-    pub walked-few : state .steps < budget → budget < 2 ^ 64 → Few score
-    walked-few h b =
-        let r = w .ready in
-        rw (w .scored) (score-few s entry budget value reference (state .branches) (omega arith))
+    -- the fork is the run from the start with the branch at the place inverted: one position more
+    pub walk-scored : (value : ℕ) (reference : List ℕ) (score score′ : Score) → score ≡ scoreBelow s entry budget value reference place
+        → score′ ≡ tallied (forkClass (settingOf table inputs (length held)) value reference state words held (budget - state .steps)) score
+        → score′ ≡ scoreBelow s entry budget value reference (place + 1)
+    unfolding forkClass classAt
+    walk-scored value reference score score′ scored tried =
+        let class : forkClass (settingOf table inputs (length held)) value reference state words held (budget - state .steps) ≡ classAt s entry budget value reference (state .branches) =
+        rw (w .kept)
+        (ap (λ (p : Progress). classOf value reference (settled (p .status)) (p .machine .events))
+        (fork-is-run s entry budget state words held (w .ready .in-budget) (w .here))) in
+        tried ∙ (rw (class, w .branches, scored)) ∙ sym (score-more s entry budget value reference place)
 
-    -- any buffer with the same head serves
-    reached : (buffer : List ℕ) → take words buffer ≡ take words held → length buffer ≡ length held → Reached s Undisturbed (at (start entry) going) buffer (state .steps) state words buffer
-    unfolding runOf
-    reached buffer head size =
-        let fits : words ≤ length buffer = omega (arith, w .fits) in
-        record {
-          events = take words buffer;
-          here = rw head (w .here);
-          count = length-take-le words buffer fits;
-          holds = sym (put-take buffer words fits);
-        }
+    -- on to the next branch, over a buffer that the fork has written in
+    module _ (buffer : List ℕ) (head : take words buffer ≡ take words held) (size : length buffer ≡ length held) (next : End) (last : List ℕ)
+        (p : Proceeds table inputs room Undisturbed state words buffer budget (place + 1) next last) where
+      fits′ : words ≤ length buffer
+      fits′ = let f = w .fits in omega arith
 
-    -- what the run counts in the end it has counted
-    all-scored : (r : Ended) → r ≡ endedOf (runOf s Undisturbed entry budget) → (score′ : Score) → score′ ≡ scoreBelow s entry budget value reference (r .state .branches) → score′ ≡ scoreBelow s entry budget value reference (final .branches)
-    all-scored r ends score′ e = e ∙ ap (λ (r : Ended). scoreBelow s entry budget value reference (r .state .branches)) ends
+      room′ : room ≡ length buffer
+      room′ = let k = w .kept in omega arith
 
-    -- the budget is used up
-    pub walk-spent : budget ≤ state .steps → score ≡ scoreBelow s entry budget value reference (final .branches)
-    unfolding runOf
-    walk-spent h =
-        let ready = w .ready in
-        let done : state .steps ≡ budget = omega arith in
-        let ends = turn-none s Undisturbed (at (start entry) going) held budget (state .steps) state words held (reached held refl refl) done in
-        all-scored _ (ends .0) score (w .scored)
+      run : (n : ℕ) → restOf s Undisturbed state words buffer n ≡ runOf s Undisturbed entry (state .steps + n)
+      run n = rest-is-run s Undisturbed entry state words buffer (rw head (w .here)) n
 
-    module _ (e : Effect) (eq : e ≡ effectFrom s Undisturbed state) (h : state .steps < budget) where
-      -- an event has no room
-      pub walk-full : hasRoom (e .sequel) words room ≡ false → score ≡ scoreBelow s entry budget value reference (final .branches)
-      unfolding runOf
-      walk-full lacks =
-          let ends = turn-full s Undisturbed (at (start entry) going) held (state .steps) state words held (reached held refl refl) e eq budget (omega arith) lacks in
-          all-scored _ (ends .0) score (w .scored)
+      -- it is not the end of the run
+      not-whole : (positions : ℕ) → positions ≡ runOf s Undisturbed entry budget .machine .branches → place + 1 < positions → p .rounds ≡ budget - state .steps → ⊥
+      not-whole positions is more e =
+          let ready = w .ready in
+          let all : state .steps + p .rounds ≡ budget = omega arith in
+          let final : next .state .branches ≡ positions =
+          ap (λ (r : End). r .state .branches) (p .ended ∙ ap endedOf (run (p .rounds) ∙ ap (runOf s Undisturbed entry) all)) ∙ sym is in
+          let within = p .within in
+          omega arith
 
-      module _ (held′ : List ℕ) (score′ : Score)
-          (tried : score′ ≡ cond (eqb (e .branches) 0) score (tallied (forkClass (settingOf table inputs (length held)) value reference state words held (budget - state .steps)) score))
-          (head : take words held′ ≡ take words held) (size : length held′ ≡ length held) where
-        -- the fork is the run from the start
-        class : forkClass (settingOf table inputs (length held)) value reference state words held (budget - state .steps) ≡ classAt s entry budget value reference (state .branches)
-        unfolding forkClass classAt
-        class =
-            rw (w .kept)
-            (ap (λ (p : Progress). classOf value reference (settled (p .status)) (p .machine .events))
-            (fork-is-run s entry budget state words held (w .ready .in-budget) (w .here)))
+      halted : Halted table budget (place + 1) state (p .rounds) (restOf s Undisturbed state words buffer (p .rounds)) → Walked (place + 1) (next .state) (next .words) last
+      halted h =
+          let q = restOf s Undisturbed state words buffer (p .rounds) in
+          let fit = rest-fits table s Undisturbed budget state words buffer (p .rounds) (w .ready) fits′ room′ in
+          let count : next .words ≡ length (q .machine .events) = ap (λ (r : End). r .words) (p .ended) in
+          let found : take (next .words) last ≡ q .machine .events = ap (take (next .words)) (p .wrote) ∙ take-put-all buffer (q .machine .events) (next .words) fit count in
+          let long = ap length (p .wrote) ∙ length-put buffer 0 (q .machine .events) in
+          let kept = w .kept in
+          let came : runOf s Undisturbed entry (q .machine .steps) ≡ q = ap (runOf s Undisturbed entry) (h .steps) ∙ sym (run (p .rounds)) in
+          subst (λ (state : State). Walked (place + 1) state (next .words) last) (sym (ap (λ (r : End). r .state) (p .ended)))
+          (record {
+            ready = h .ready;
+            here = came ∙ ap (at (q .machine)) (h .status) ∙ ap (λ (l : List ℕ). at (machineOf (stateOf (q .machine)) l) going) (sym found);
+            branches = h .branches;
+            fits = omega arith;
+            kept = omega arith;
+          })
 
-        -- the score of one branch more, where the step is one
-        score-of : (n : ℕ) → n ≤ 1 → e .branches ≡ n → score′ ≡ scoreBelow s entry budget value reference (state .branches + n)
-        score-of zero few is =
-            tried ∙ (rw (eq-eqb (e .branches) 0 is)) ∙ w .scored ∙ ap (scoreBelow s entry budget value reference) (sym (add-zero _))
-        score-of (suc zero) few is =
-            tried ∙ (rw (ne-eqb (e .branches) 0 (λ z. omega arith), class, w .scored)) ∙ sym (score-more s entry budget value reference (state .branches))
-        score-of (suc (suc n)) few is = absurd (omega arith)
-
-        scored′ : score′ ≡ scoreBelow s entry budget value reference (state .branches + e .branches)
-        scored′ = score-of (e .branches) (small table inputs room budget Undisturbed state e (w .ready) eq .counts .branches) refl
-
-        module _ (ok : hasRoom (e .sequel) words room ≡ true) (words′ : ℕ) (held″ : List ℕ) (counted : words′ ≡ words + length (eventWords (e .sequel) (e .value))) (wrote : held″ ≡ put held′ words (eventWords (e .sequel) (e .value))) where
-          -- the run goes on
-          pub walk-on : going ≡ statusAfter (e .sequel) (e .value) → Walked (applied state e) words′ held″ score′
-          unfolding runOf
-          walk-on st =
-              let p = at (start entry) going in
-              let r = turn-on s Undisturbed p held′ (state .steps) state words held′ (reached held′ head size) e eq ok words′ held″ counted wrote (state .steps + 1) refl st in
-              let count = r .count in
-              let here = r .here in
-              let bound = rw here at (within s Undisturbed entry (state .steps + 1)) in
-              let kept = w .kept in
-              let long = reached-length s Undisturbed p held′ r in
-              let found = ap (take words′) (r .holds) ∙ take-put-all held′ (r .events) words′ (omega (arith, bound .events)) (sym count) in
-              record {
-                ready = ready-applied table inputs room budget Undisturbed state e (w .ready) h eq;
-                here = here ∙ ap (λ (l : List ℕ). at (machineOf (applied state e) l) going) (sym found);
-                fits = omega (arith, bound .events);
-                kept = long ∙ size ∙ kept;
-                scored = scored′;
-              }
-
-          -- the run ends with the step
-          pub walk-end : (outcome : Outcome) → ended outcome ≡ statusAfter (e .sequel) (e .value) → score′ ≡ scoreBelow s entry budget value reference (final .branches)
-          unfolding runOf
-          walk-end outcome st =
-              let ends = turn-end s Undisturbed (at (start entry) going) held′ (state .steps) state words held′ (reached held′ head size) e eq ok words′ held″ counted wrote budget outcome (omega arith) st in
-              all-scored _ (ends .0) score′ scored′
-
-  -- before the first turn
-  pub walk-start : (held : List ℕ) → length held ≡ room → Ready table budget (stateOf (start entry)) → Walked (stateOf (start entry)) 0 held (record { positions = 0; caught = 0; late = 0; harmless = 0; changed = 0; unended = 0 })
-  unfolding runOf start after
-  walk-start held h ready =
-      record { ready = ready; here = refl; fits = omega arith; kept = h; scored = score-none s entry budget value reference }
+      pub walk-on : (positions : ℕ) → positions ≡ runOf s Undisturbed entry budget .machine .branches → place + 1 < positions → Walked (place + 1) (next .state) (next .words) last
+      walk-on positions is more = by (p .stands)
+        where
+          by : (p .rounds ≡ budget - state .steps) ⊎ Halted table budget (place + 1) state (p .rounds) (restOf s Undisturbed state words buffer (p .rounds)) → Walked (place + 1) (next .state) (next .words) last
+          by (inl e) = absurd (not-whole positions is more e)
+          by (inr h) = halted h

@@ -7,10 +7,10 @@ use mathlib.Core.List.{List}
 use lib.Dec.{eqb}
 use lib.ListN.{length, take}
 use Rattle.bench.specs.Steps.{Setting}
-use Rattle.bench.specs.Runs.{settled}
+use Rattle.bench.specs.Runs.{runOf, settled}
 use Rattle.bench.specs.Ready.{restOf}
 use Rattle.bench.specs.Campaigns.{classOf, Class, caught, late, harmless, changed, unended}
-use Rattle.bench.specs.declared.Fault.the-variants.{Inverted}
+use Rattle.bench.specs.declared.Fault.the-variants.{Undisturbed, Inverted}
 use Rattle.bench.specs.declared.State.{State}
 use Rattle.bench.specs.declared.Outcome.{Outcome}
 use Rattle.bench.specs.declared.Outcome.the-variants as outcome
@@ -44,6 +44,12 @@ pub record Shared (reference : List ℕ) (total : ℕ) (buffer : List ℕ) (word
   pub part : words ≤ total
   pub room : words ≤ length buffer
   pub same : take words buffer ≡ take words (take total reference)
+
+-- the undisturbed run's events at the head of a buffer, and how many branches it executed
+pub record Reference (s : Setting) (entry budget : ℕ) (buffer : List ℕ) (total positions : ℕ) : Type 0 where
+  pub whole : total ≤ length buffer
+  pub events : take total buffer ≡ runOf s Undisturbed entry budget .machine .events
+  pub branches : positions ≡ runOf s Undisturbed entry budget .machine .branches
 
 -- counts that one more fits
 pub record Few (score : Score) : Type 0 where

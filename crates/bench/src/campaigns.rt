@@ -34,39 +34,40 @@ fn scored(
 {
     let room = first.len();
     let mut nowhere: [u32; 0] = [];
-    let trial = runs::proceed(
+    let trial = runs::whole(
         table,
         inputs,
         &mut nowhere,
         room,
+        entry,
         budget,
         Fault::Undisturbed,
-        runs::start(entry),
-        0,
     );
     let outcome = trial.outcome;
     let Outcome::Returned(value) = outcome else {
         return CampaignAnswer::Refused(13, 0);
     };
-    let reference = runs::proceed(
+    let ended = runs::whole(
         table,
         inputs,
         first,
         room,
+        entry,
         budget,
         Fault::Undisturbed,
-        runs::start(entry),
-        0,
     );
+    let last = ended.state;
+    let total = ended.words;
     let score = scores::walk(
         table,
         inputs,
         first,
-        reference.words,
+        total,
         value,
         second,
         entry,
         budget,
+        last.branches,
     );
     scores::clear(second);
     CampaignAnswer::Scored(score)

@@ -41,16 +41,7 @@ pub fn run(
                 return refused(12, 0);
             }
             let room = events.len();
-            let ended = runs::proceed(
-                table,
-                inputs,
-                events,
-                room,
-                budget,
-                fault,
-                runs::start(entry),
-                0,
-            );
+            let ended = runs::whole(table, inputs, events, room, entry, budget, fault);
             let outcome = ended.outcome;
             let state = ended.state;
             RunAnswer {

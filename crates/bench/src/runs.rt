@@ -6,20 +6,36 @@ ghost use mathlib.Core.List.{[], _∷_};
 ghost use lib.ListN.{length, replicate};
 ghost use Rattle.words.specs.Buffer.{put};
 ghost use Rattle.bench.specs.Steps.{start};
-ghost use Rattle.bench.specs.Runs.{stateOf};
+ghost use Rattle.bench.specs.Runs.{runOf, stateOf};
 ghost use Rattle.bench.specs.Effects.{hasRoom, eventWords, statusAfter};
-ghost use Rattle.bench.specs.Ready.{Ready, settingOf, restOf, endedOf, statusOf};
+ghost use Rattle.bench.specs.Ready.{Ready, Proceeds, settingOf, restOf, endedOf, endedAt, endOf, runEnd, stateAt, standingAt, statusOf};
 use crate::Fault;
 use crate::Outcome;
 use crate::State;
-use crate::steps;
 use crate::steps::Sequel;
+use crate::steps::effect_at;
+use crate::steps::inverts;
 
-// How a run ended: its outcome, its last state, and how many words of events it made.
-pub struct Ended {
+// Where a run stands, beside its registers: the node to execute next, the counts, and how many words of events there are.
+pub struct At {
+    pub node: usize,
+    pub steps: usize,
+    pub branches: usize,
+    pub reads: usize,
+    pub words: usize,
+}
+
+// A whole run: its outcome, its last state, and how many words of events it made.
+pub struct Run {
     pub outcome: Outcome,
     pub state: State,
     pub words: usize,
+}
+
+// How a run ended, and where.
+pub struct Ended {
+    pub outcome: Outcome,
+    pub at: At,
 }
 
 // Whether a run goes on.
@@ -29,7 +45,7 @@ pub enum Ending {
 }
 
 // Whether what follows a step fits: an event needs two words of room.
-pub fn has_room(sequel: Sequel, words: usize, room: usize) -> bool
+fn has_room(sequel: Sequel, words: usize, room: usize) -> bool
     ensures { λ r. ⌜ r ≡ hasRoom sequel words room ⌝ }
 {
     match sequel {
@@ -46,7 +62,7 @@ pub fn has_room(sequel: Sequel, words: usize, room: usize) -> bool
 }
 
 // Whether a step ends the run.
-pub fn ends(sequel: Sequel, value: u32) -> Ending
+fn ends(sequel: Sequel, value: u32) -> Ending
     ensures { λ r. ⌜ statusOf r ≡ statusAfter sequel value ⌝ }
 {
     match sequel {
@@ -67,13 +83,7 @@ fn write(buffer: &mut [u32], i: usize, value: u32)
 }
 
 // The event of a step, if it makes one, is written after so many words; how many there are then.
-pub fn write_event(
-    events: &mut [u32],
-    words: usize,
-    sequel: Sequel,
-    value: u32,
-    room: usize,
-) -> usize
+fn write_event(events: &mut [u32], words: usize, sequel: Sequel, value: u32, room: usize) -> usize
     requires { ⌜ hasRoom sequel words room ≡ true ⌝ }
     ensures { λ r. ⌜ r ≡ words + length (eventWords sequel value) ⌝ }
     ensures { λ _. ⌜ now (events .exit) ≡ put (now (events .entry)) words (eventWords sequel value) ⌝ }
@@ -90,60 +100,91 @@ pub fn write_event(
     }
 }
 
-// A run goes on from a state until it ends or its budget is used up. Events past the end of the buffer are counted and lost.
+fn end(outcome: Outcome, at: At) -> Ended
+    ensures { λ r. ⌜ r ≡ endedAt outcome at ⌝ }
+{
+    Ended { outcome, at }
+}
+
+// A run goes on until it ends, its budget is used up, or so many branches are executed. Its state stays where it is, and each
+// effect is applied to it there. Events past the end of the buffer are counted and lost.
 pub fn proceed(
     table: &[u32],
     inputs: &[u32],
     events: &mut [u32],
     room: usize,
     budget: usize,
+    until: usize,
     fault: Fault,
-    from: State,
-    made: usize,
+    registers: &mut [u32; 64],
+    from: At,
 ) -> Ended
-    requires { ⌜ Ready (now table) budget from ⌝ }
-    requires { ⌜ made ≤ length (now events) ⌝ }
-    ensures { λ r. ⌜ r ≡ endedOf (restOf (settingOf (now (table .entry)) (now (inputs .entry)) room) fault from made (now (events .entry)) (budget - from .steps)) ⌝ }
-    ensures { λ _. ⌜ now (events .exit) ≡ put (now (events .entry)) 0 (restOf (settingOf (now (table .entry)) (now (inputs .entry)) room) fault from made (now (events .entry)) (budget - from .steps) .machine .events) ⌝ }
+    requires { ⌜ Ready (now table) budget (stateAt (now registers) from) ⌝ }
+    requires { ⌜ (from .words ≤ length (now events)) × (from .branches ≤ until) ⌝ }
+    ensures { λ r. ⌜ Proceeds (now (table .entry)) (now (inputs .entry)) room fault (stateAt (now (registers .entry)) from) (from .words) (now (events .entry)) budget until (endOf (now (registers .exit)) r) (now (events .exit)) ⌝ }
 {
-    let mut state = from;
-    let mut words = made;
-    while state.steps < budget {
-        let inverted = steps::inverts(fault, state.branches);
-        let effect = steps::effect_at(
-            table,
-            inputs,
-            &state.registers,
-            state.node,
-            state.reads,
-            inverted,
-        );
-        let sequel = effect.sequel;
-        if !has_room(sequel, words, room) {
-            return Ended {
-                outcome: Outcome::Full,
-                state,
-                words,
-            };
+    let mut at = from;
+    while at.steps < budget {
+        if at.branches == until {
+            return end(Outcome::Spent, at);
         }
-        words = write_event(events, words, sequel, effect.value, room);
+        let inverted = inverts(fault, at.branches);
+        let effect = effect_at(table, inputs, registers, at.node, at.reads, inverted);
+        let sequel = effect.sequel;
+        if !has_room(sequel, at.words, room) {
+            return end(Outcome::Full, at);
+        }
+        at.words = write_event(events, at.words, sequel, effect.value, room);
         let register = effect.register;
-        state.registers[register] = effect.value;
-        state.node = effect.next;
-        state.steps += 1;
-        state.branches += effect.branches;
-        state.reads += effect.reads;
+        registers[register] = effect.value;
+        at.node = effect.next;
+        at.steps += 1;
+        at.branches += effect.branches;
+        at.reads += effect.reads;
         if let Ending::With(outcome) = ends(sequel, effect.value) {
-            return Ended {
-                outcome,
-                state,
-                words,
-            };
+            return end(outcome, at);
         }
     }
-    Ended {
-        outcome: Outcome::Spent,
-        state,
+    end(Outcome::Spent, at)
+}
+
+// A run goes on to its end. It never executes as many branches as its budget has steps and goes on.
+pub fn finish(
+    table: &[u32],
+    inputs: &[u32],
+    events: &mut [u32],
+    room: usize,
+    budget: usize,
+    fault: Fault,
+    registers: &mut [u32; 64],
+    from: At,
+) -> Ended
+    requires { ⌜ Ready (now table) budget (stateAt (now registers) from) ⌝ }
+    requires { ⌜ from .words ≤ length (now events) ⌝ }
+    ensures { λ r. ⌜ endOf (now (registers .exit)) r ≡ endedOf (restOf (settingOf (now (table .entry)) (now (inputs .entry)) room) fault (stateAt (now (registers .entry)) from) (from .words) (now (events .entry)) (budget - from .steps)) ⌝ }
+    ensures { λ _. ⌜ now (events .exit) ≡ put (now (events .entry)) 0 (restOf (settingOf (now (table .entry)) (now (inputs .entry)) room) fault (stateAt (now (registers .entry)) from) (from .words) (now (events .entry)) (budget - from .steps) .machine .events) ⌝ }
+{
+    proceed(
+        table,
+        inputs,
+        events,
+        room,
+        budget,
+        budget,
+        fault,
+        registers,
+        from,
+    )
+}
+
+pub fn standing(node: usize, steps: usize, branches: usize, reads: usize, words: usize) -> At
+    ensures { λ r. ⌜ r ≡ standingAt node steps branches reads words ⌝ }
+{
+    At {
+        node,
+        steps,
+        branches,
+        reads,
         words,
     }
 }
@@ -164,5 +205,44 @@ pub fn start(entry: usize) -> State
         steps: 0,
         branches: 0,
         reads: 0,
+    }
+}
+
+// A run from the entry to its end.
+pub fn whole(
+    table: &[u32],
+    inputs: &[u32],
+    events: &mut [u32],
+    room: usize,
+    entry: usize,
+    budget: usize,
+    fault: Fault,
+) -> Run
+    requires { ⌜ Ready (now table) budget (stateOf (start entry)) ⌝ }
+    ensures { λ r. ⌜ runEnd r ≡ endedOf (runOf (settingOf (now (table .entry)) (now (inputs .entry)) room) fault entry budget) ⌝ }
+    ensures { λ _. ⌜ now (events .exit) ≡ put (now (events .entry)) 0 (runOf (settingOf (now (table .entry)) (now (inputs .entry)) room) fault entry budget .machine .events) ⌝ }
+{
+    let mut state = start(entry);
+    let from = standing(entry, 0, 0, 0, 0);
+    let ended = finish(
+        table,
+        inputs,
+        events,
+        room,
+        budget,
+        fault,
+        &mut state.registers,
+        from,
+    );
+    let outcome = ended.outcome;
+    let at = ended.at;
+    state.node = at.node;
+    state.steps = at.steps;
+    state.branches = at.branches;
+    state.reads = at.reads;
+    Run {
+        outcome,
+        state,
+        words: at.words,
     }
 }

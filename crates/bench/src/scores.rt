@@ -1,22 +1,19 @@
 // The score: the class of each disturbed run, and the walk of the reference that tries one at each branch.
 ghost use mathlib.Core.Path.{_≡_};
-ghost use mathlib.Core.Bool.{Bool, cond, _&&_};
+ghost use mathlib.Core.Bool.{_&&_};
 ghost use Prim.Native.Nat.{_-_, _≤_};
 ghost use lib.Dec.{eqb};
 ghost use lib.ListN.{length, take, drop, replicate};
 ghost use Rattle.bench.specs.Campaigns.{prefixOf, tallied, noScore, scoreBelow};
 ghost use Rattle.bench.specs.Steps.{start};
-ghost use Rattle.bench.specs.Runs.{runOf, stateOf};
-ghost use Rattle.bench.specs.declared.Fault.the-variants.{Undisturbed};
-ghost use Rattle.bench.specs.Classes.{Few, Shared, classBy, classFor, forkClass};
+ghost use Rattle.bench.specs.Runs.{stateOf};
+ghost use Rattle.bench.specs.Classes.{Few, Shared, Reference, classBy, classFor, forkClass};
 ghost use Rattle.bench.specs.Ready.{Ready, settingOf};
 use crate::Fault;
 use crate::Outcome;
 use crate::Score;
 use crate::State;
 use crate::runs;
-use crate::runs::Ending;
-use crate::steps;
 
 // What a disturbed run is counted as.
 pub enum Class {
@@ -125,8 +122,7 @@ pub fn clear(buffer: &mut [u32])
     }
 }
 
-// The score after a step of the reference: where the step is a branch, the run in which it goes to its other target is made
-// and counted.
+// The score with the run from a state of the reference in which its next branch goes to the other target.
 fn tried(
     table: &[u32],
     inputs: &[u32],
@@ -135,7 +131,6 @@ fn tried(
     value: u32,
     events: &mut [u32],
     budget: usize,
-    branches: usize,
     from: State,
     words: usize,
     score: Score,
@@ -143,23 +138,32 @@ fn tried(
     requires { ⌜ Ready (now table) budget from ⌝ }
     requires { ⌜ Shared (now reference) total (now events) words ⌝ }
     requires { ⌜ Few score ⌝ }
-    ensures { λ r. ⌜ r ≡ cond (eqb branches 0) score (tallied (forkClass (settingOf (now (table .entry)) (now (inputs .entry)) (length (now (events .entry)))) value (take total (now (reference .entry))) from words (now (events .entry)) (budget - from .steps)) score) ⌝ }
+    ensures { λ r. ⌜ r ≡ tallied (forkClass (settingOf (now (table .entry)) (now (inputs .entry)) (length (now (events .entry)))) value (take total (now (reference .entry))) from words (now (events .entry)) (budget - from .steps)) score ⌝ }
     ensures { λ _. ⌜ take words (now (events .exit)) ≡ take words (now (events .entry)) ⌝ }
 {
-    if branches == 0 {
-        return score;
-    }
     let room = events.len();
     let fault = Fault::Inverted(from.branches);
-    let ended = runs::proceed(table, inputs, events, room, budget, fault, from, words);
-    let made = ended.words;
+    let at = runs::standing(from.node, from.steps, from.branches, from.reads, words);
+    let mut fork = from;
+    let ended = runs::finish(
+        table,
+        inputs,
+        events,
+        room,
+        budget,
+        fault,
+        &mut fork.registers,
+        at,
+    );
+    let end = ended.at;
+    let made = end.words;
     let prefix = agrees(reference, total, events, made, words);
     let outcome = ended.outcome;
     tally(classed(outcome, value, prefix, made == total), score)
 }
 
-// The reference is walked once more, and at each of its branches the run that inverts it is tried. Before the branch both are the
-// same, so it is made from there on: the state is copied, and the words of the events so far already lie in the buffer.
+// The reference is walked once more, from branch to branch, and at each the run that inverts it is tried. Up to that branch both
+// are the same, so it is made from the state before it, and the words of the events so far already lie in the buffer.
 pub fn walk(
     table: &[u32],
     inputs: &[u32],
@@ -169,29 +173,18 @@ pub fn walk(
     events: &mut [u32],
     entry: usize,
     budget: usize,
+    positions: usize,
 ) -> Score
     requires { ⌜ Ready (now table) budget (stateOf (start entry)) ⌝ }
-    requires { ⌜ total ≤ length (now reference) ⌝ }
-    requires { ⌜ take total (now reference) ≡ runOf (settingOf (now table) (now inputs) (length (now events))) Undisturbed entry budget .machine .events ⌝ }
-    ensures { λ r. ⌜ r ≡ scoreBelow (settingOf (now (table .entry)) (now (inputs .entry)) (length (now (events .entry)))) entry budget value (take total (now (reference .entry))) (runOf (settingOf (now (table .entry)) (now (inputs .entry)) (length (now (events .entry)))) Undisturbed entry budget .machine .branches) ⌝ }
+    requires { ⌜ Reference (settingOf (now table) (now inputs) (length (now events))) entry budget (now reference) total positions ⌝ }
+    ensures { λ r. ⌜ r ≡ scoreBelow (settingOf (now (table .entry)) (now (inputs .entry)) (length (now (events .entry)))) entry budget value (take total (now (reference .entry))) positions ⌝ }
 {
     let room = events.len();
     let mut state = runs::start(entry);
     let mut words = 0;
     let mut score = none();
-    while state.steps < budget {
-        let effect = steps::effect_at(
-            table,
-            inputs,
-            &state.registers,
-            state.node,
-            state.reads,
-            false,
-        );
-        let sequel = effect.sequel;
-        if !runs::has_room(sequel, words, room) {
-            return score;
-        }
+    let mut place = 0;
+    while place < positions {
         score = tried(
             table,
             inputs,
@@ -200,21 +193,29 @@ pub fn walk(
             value,
             events,
             budget,
-            effect.branches,
             state,
             words,
             score,
         );
-        words = runs::write_event(events, words, sequel, effect.value, room);
-        let register = effect.register;
-        state.registers[register] = effect.value;
-        state.node = effect.next;
-        state.steps += 1;
-        state.branches += effect.branches;
-        state.reads += effect.reads;
-        if let Ending::With(_) = runs::ends(sequel, effect.value) {
-            return score;
-        }
+        place += 1;
+        let from = runs::standing(state.node, state.steps, state.branches, state.reads, words);
+        let ended = runs::proceed(
+            table,
+            inputs,
+            events,
+            room,
+            budget,
+            place,
+            Fault::Undisturbed,
+            &mut state.registers,
+            from,
+        );
+        let at = ended.at;
+        state.node = at.node;
+        state.steps = at.steps;
+        state.branches = at.branches;
+        state.reads = at.reads;
+        words = at.words;
     }
     score
 }

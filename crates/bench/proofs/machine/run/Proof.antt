@@ -1,9 +1,9 @@
 -- `bench::run` meets its contract. Assumes nothing.
 use borrow.Author.Needs.{needs}
 use mathlib.Core.Path.{_≡_, sym, ap, _∙_}
-use native.Mathlib.Omega.{arith}
 use Rattle.words.specs.Answer.{given}
 use Rattle.graph.specs.Checks.{checkOf, runnableCheck}
+use Rattle.bench.specs.Ready.{runEnd}
 use Rattle.bench.proofs.Checked.{ready-start, run-twelve, run-made, run-refused}
 use Rattle.bench.proofs.machine.run.Statement.{statement}
 use Rattle.bench.proofs.machine.run.Tie as tie
@@ -24,12 +24,8 @@ refused-requires c κs = search needs
 returns : tie.Need-returns
 returns c = run-twelve _ _ _ _ _ _ _ _ (c .refused .ensures) (accepted (c .before .before)) (c .before .if1 .taken)
 
-start-requires : tie.Need-start-requires
-start-requires c κs = search needs
-
-proceed-requires : tie.Need-proceed-requires
-proceed-requires c κs =
-    (rw (c .start .ensures) (ready-start _ _ _ _ _ (accepted (c .before .before .before))), omega arith)
+whole-requires : tie.Need-whole-requires
+whole-requires c κs = ready-start _ _ _ _ _ (accepted (c .before .before))
 
 enum-known-number : tie.Need-enum-known-number
 enum-known-number c = search needs
@@ -42,7 +38,8 @@ same-length c = search needs
 
 returns-2 : tie.Need-returns-2
 returns-2 c =
-    run-made _ _ _ _ _ _ _ _ _ _ _ (accepted (c .before .before .before .before .before .before .before .before)) (c .before .before .before .before .before .before .before .if1 .left) (c .before .before .before .before .before .start .ensures) (c .before .before .before .before .proceed .ensures .0) (c .before .before .before .before .proceed .ensures .1)
+    let made = c .before .before .before .before .whole .ensures in
+    run-made _ _ _ _ _ _ _ _ (runEnd (c .before .before .before .before .whole .result)) _ (accepted (c .before .before .before .before .before .before .before)) (c .before .before .before .before .before .before .if1 .left) (made .0) (made .1)
 
 returns-3 : tie.Need-returns-3
 returns-3 c =
@@ -56,8 +53,7 @@ run-spec =
     enum-told
     refused-requires
     returns
-    start-requires
-    proceed-requires
+    whole-requires
     enum-known-number
     refused-requires-2
     same-length
