@@ -117,7 +117,8 @@ fn step(
     at: &mut At,
     invert: bool,
 ) -> Option<Outcome> {
-    let row = &rows[at.node as usize];
+    // All six words at once: a branch then waits for no load after its test.
+    let row = rows[at.node as usize];
     match row[0] {
         CONST => {
             registers[index(row[1])] = row[2];
@@ -128,8 +129,8 @@ fn step(
             registers[index(row[2])] = operate(row[1], a, b);
             at.node = row[5];
         }
-        BRANCH => branch(row, registers, registers[index(row[3])], at, invert),
-        BRANCH_WORD => branch(row, registers, row[3], at, invert),
+        BRANCH => branch(&row, registers, registers[index(row[3])], at, invert),
+        BRANCH_WORD => branch(&row, registers, row[3], at, invert),
         IN => {
             registers[index(row[1])] = input.get(at.reads as usize).copied().unwrap_or(0);
             at.reads += 1;

@@ -54,7 +54,7 @@ fn main() -> ExitCode {
         "mean"
     );
     let missed = lines.iter().filter(|line| !line.print(&race)).count();
-    let rerun = rerun(&runs[1]);
+    let rerun = rerun(&Case::new(LOOP, true, 5_000));
     ExitCode::from(u8::from(!rerun || missed > 0))
 }
 
@@ -170,22 +170,29 @@ impl Pair {
     }
 }
 
-/// The campaign with each disturbed run made from the start, once.
-fn rerun(pair: &Pair) -> bool {
+/// A campaign beside the same with each disturbed run made from the start.
+fn rerun(case: &Case) -> bool {
     let (mut ours, mut theirs) = (Buffers::new(), Buffers::new());
-    let began = Instant::now();
-    let score = theirs.rerun(black_box(&pair.whole));
-    let rust = began.elapsed();
-    assert_eq!(same::campaign(&pair.whole), score);
-    let mut race = Race::default();
-    let entry = race.enter(move || hold(ours.proved(black_box(&pair.whole))));
-    race.run(Duration::from_secs(1));
-    let times = ratio(rust, race.time(entry, Pick::Best));
-    let what = format!("campaign, {}: Rust from the start / proved", pair.name);
+    let score = same::campaign(case);
+    let proved = least(300, || hold(ours.proved(black_box(case))));
+    let rust = least(3, || assert_eq!(theirs.rerun(black_box(case)), score));
+    let times = ratio(rust, proved);
     let reached = times >= 100.0;
     let verdict = verdict("at least", 100.0, reached);
+    let positions = score.positions;
+    let what =
+        format!("campaign, hardened loop, {positions} positions: Rust from the start / proved");
     println!("{what:<80} {times:>8.0} {:>8}   {verdict}", "");
     reached
+}
+
+fn least(times: u32, mut work: impl FnMut()) -> Duration {
+    let timed = (0..times).map(|_| {
+        let began = Instant::now();
+        work();
+        began.elapsed()
+    });
+    timed.min().expect("timed at least once")
 }
 
 /// A source of the largest size, and one half as large.

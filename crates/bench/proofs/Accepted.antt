@@ -1,18 +1,18 @@
 -- What an accepted campaign answers: as many positions as the undisturbed run executed branches, each in one of the five counts.
 -- Assumes nothing.
-use mathlib.Core.Path.{_≡_, refl, sym, ap, _∙_, subst}
+use mathlib.Core.Path.{_≡_, subst}
 use mathlib.Core.List.{List}
 use Prim.Native.Nat.{ℕ}
 use native.Mathlib.Omega.{arith}
 use lib.Dec.{eqb, leb}
-use Rattle.words.specs.Answer.{Answer, given, refused, demand}
+use Rattle.words.specs.Answer.{given, refused}
 use Rattle.graph.specs.Checks.{runnableCheck}
 use Rattle.graph.proofs.Passed.{demand-given}
 use Rattle.graph.proofs.Facts.{and-given}
 use Rattle.bench.specs.Steps.{Machine, Setting}
 use Rattle.bench.specs.Runs.{runOf, settled, mostSteps}
 use Rattle.bench.specs.Ready.{settingOf}
-use Rattle.bench.specs.Campaigns.{scoreOf, scoreBelow, scoreAnswer, campaignAnswer}
+use Rattle.bench.specs.Campaigns.{scoreOf, scoreBelow, campaignAnswer}
 use Rattle.bench.proofs.Tallies.{Whole, score-whole}
 use Rattle.bench.specs.declared.Fault.the-variants.{Undisturbed}
 use Rattle.bench.specs.declared.Outcome.{Outcome}

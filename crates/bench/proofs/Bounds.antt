@@ -1,22 +1,19 @@
 -- What a run never exceeds: its steps the budget, its branches and reads the steps, its events the room.
 -- Assumes nothing.
-use mathlib.Core.Path.{_≡_, refl, sym, ap, _∙_, subst}
-use mathlib.Core.Bool.{Bool, true, false, cond}
-use mathlib.Core.List.{List, [], _∷_, _++_}
+use mathlib.Core.Path.{_≡_, refl, sym, subst}
+use mathlib.Core.Bool.{Bool, true, false}
+use mathlib.Core.List.{List}
 use Prim.Native.Nat.{ℕ, zero, suc, _+_, _≤_}
 use native.Mathlib.Nat.{add-zero, zero-add}
 use native.Mathlib.Omega.{arith}
 use borrow.Author.Tests.{leb-true}
 use lib.ListN.{length, length-append}
 use Rattle.graph.specs.Nodes.{Node, go, branch, ret, stop, const, op, input, output}
-use Rattle.bench.specs.Steps.{Machine, Setting, Status, going, ended, Progress, at, start, inverts, step}
-use Rattle.bench.specs.Effects.{effectOf, effectFrom, eventWords, hasRoom, statusAfter, applied, machineOf}
+use Rattle.bench.specs.Steps.{Machine, Setting, Status, going, ended, Progress, at, start, inverts}
+use Rattle.bench.specs.Effects.{effectOf, effectFrom, eventWords, hasRoom}
 use Rattle.bench.specs.Runs.{nextOf, next, after, runOf, stateOf}
 use Rattle.bench.proofs.Effects.{followed, step-effect}
 use Rattle.bench.specs.declared.Fault.{Fault}
-use Rattle.bench.specs.declared.State.{State}
-use Rattle.bench.specs.declared.Outcome.{Outcome}
-use Rattle.bench.specs.declared.Outcome.the-variants.{Full}
 use Rattle.bench.specs.declared.steps.Effect.{Effect}
 use Rattle.bench.specs.declared.steps.Sequel.{Sequel}
 use Rattle.bench.specs.declared.steps.Sequel.the-variants as sequel

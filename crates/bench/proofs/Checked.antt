@@ -1,24 +1,22 @@
 -- From a checked table to a run: what the loop asks for holds at the start, and what it leaves is what a run answers and writes.
 -- Assumes nothing.
-use mathlib.Core.Path.{_≡_, refl, sym, ap, _∙_}
-use mathlib.Core.Bool.{Bool, true, false}
-use mathlib.Core.List.{List, []}
-use Prim.Native.Nat.{ℕ, _+_, _-_, _*_, _/_, _≤_, _<_}
+use mathlib.Core.Path.{_≡_, refl, subst}
+use mathlib.Core.List.{List}
+use Prim.Native.Nat.{ℕ, _-_, _/_, _≤_, _<_}
 use native.Mathlib.Nat.{sub-zero}
 use native.Mathlib.Omega.{arith}
 use borrow.Author.Tests.{le-leb, lt-leb}
-use lib.ListN.{length, take}
-use Rattle.words.specs.Answer.{Answer, given, refused, demand, andThen, written}
+use lib.ListN.{length}
+use Rattle.words.specs.Answer.{Answer, given, refused, written}
 use Rattle.words.specs.Buffer.{over, put}
 use Rattle.words.proofs.Puts.{put-over}
 use Rattle.graph.specs.Nodes.{Node, go, branch, ret, stop, const, op, input, output, register, constant, nodeAt}
-use Rattle.graph.specs.Accepted.{NodeIn, RunnableGraph}
+use Rattle.graph.specs.Accepted.{NodeIn}
 use Rattle.graph.specs.Checks.{runnableCheck}
 use Rattle.graph.proofs.Facts.{runnable-facts, runnable-room}
-use Rattle.bench.specs.Steps.{Setting, Progress, going, at, start}
-use Rattle.bench.specs.Effects.{machineOf}
-use Rattle.bench.specs.Runs.{after, runOf, settled, stateOf, answerOf, mostSteps, runAnswer, runEvents}
-use Rattle.bench.specs.Ready.{End, Inside, Ready, settingOf, restOf, endedOf}
+use Rattle.bench.specs.Steps.{Setting, Progress, start}
+use Rattle.bench.specs.Runs.{runOf, stateOf, answerOf, mostSteps, runAnswer, runEvents}
+use Rattle.bench.specs.Ready.{End, Ends, Ready, settingOf, restOf}
 use Rattle.bench.proofs.Bounds.{within}
 use Rattle.bench.specs.declared.Fault.{Fault}
 use Rattle.bench.specs.declared.State.{State}
@@ -57,13 +55,11 @@ ready-start registers nodes entry table budget ok =
 
 -- from the start, all rounds of the budget are left
 pub from-start : (s : Setting) (fault : Fault) (entry : ℕ) (buffer : List ℕ) (budget : ℕ) (from : State) (words : ℕ) → from ≡ stateOf (start entry) → words ≡ 0
-    → (r : End) → r ≡ endedOf (restOf s fault from words buffer (budget - from .steps)) → (last : List ℕ) → last ≡ put buffer 0 (restOf s fault from words buffer (budget - from .steps) .machine .events)
-    → (r ≡ endedOf (runOf s fault entry budget)) × (last ≡ put buffer 0 (runOf s fault entry budget .machine .events))
+    → (r : End) (last : List ℕ) → Ends (restOf s fault from words buffer (budget - from .steps)) buffer r last → Ends (runOf s fault entry budget) buffer r last
 unfolding restOf runOf start
-from-start s fault entry buffer budget from words e none r ended last wrote = (ended ∙ ap endedOf run, wrote ∙ ap (λ (p : Progress). put buffer 0 (p .machine .events)) run)
-  where
-    run : restOf s fault from words buffer (budget - from .steps) ≡ runOf s fault entry budget
-    run = rw (e, none, sub-zero)
+from-start s fault entry buffer budget from words e none r last ends =
+    let run : restOf s fault from words buffer (budget - from .steps) ≡ runOf s fault entry budget = rw (e, none, sub-zero) in
+    subst (λ (p : Progress). Ends p buffer r last) run ends
 
 -- the events of a run lie over the first words of a buffer that has room for them
 pub events-over : (s : Setting) (fault : Fault) (entry budget : ℕ) (buffer : List ℕ) → s .room ≡ length buffer → put buffer 0 (runOf s fault entry budget .machine .events) ≡ over (runOf s fault entry budget .machine .events) buffer
@@ -91,11 +87,10 @@ module _ (registers nodes entry : ℕ) (table inputs buffer : List ℕ) (budget 
 
   -- how the run ended is the answer
   pub run-made : (ended : End) (last : List ℕ) → runnableCheck registers nodes entry table ≡ given tt → budget ≤ mostSteps
-      → ended ≡ endedOf (runOf (settingOf table inputs (length buffer)) fault entry budget)
-      → last ≡ put buffer 0 (runOf (settingOf table inputs (length buffer)) fault entry budget .machine .events)
+      → Ends (runOf (settingOf table inputs (length buffer)) fault entry budget) buffer ended last
       → Answers (record { verdict = Ran (ended .outcome); state = ended .state; events = ended .words / 2 }) last
   unfolding runAnswer
-  run-made ended last ok h made wrote =
+  run-made ended last ok h ends =
       let s = settingOf table inputs (length buffer) in
-      rw (made, wrote, events-over s fault entry budget buffer refl)
+      rw (ends .0, ends .1, events-over s fault entry budget buffer refl)
       (answers (given (runOf s fault entry budget)) (rw (ok, le-leb budget mostSteps h)))

@@ -1,21 +1,20 @@
 -- A step applies the effect of its node, or stops where an event has no room.
 -- Assumes nothing.
-use mathlib.Core.Path.{_≡_, refl, sym, ap, _∙_}
+use mathlib.Core.Path.{_≡_, refl}
 use mathlib.Core.Bool.{Bool, true, false, cond}
 use mathlib.Core.Option.{none, some}
-use mathlib.Core.List.{List, [], _∷_, _++_, append-nil}
+use mathlib.Core.List.{List, _++_, append-nil}
 use Prim.Native.Nat.{ℕ, _+_}
 use native.Mathlib.Nat.{add-zero}
 use lib.ListN.{length, getD, set}
 use lib.Seq.{set-getD}
 use lib.Dec.{leb}
 use Rattle.graph.specs.Nodes.{Node, go, branch, ret, stop, const, op, input, output, register, constant}
-use Rattle.bench.specs.Steps.{Machine, Setting, Status, going, ended, Progress, at, inverts, stopped, execute, unless, step}
+use Rattle.bench.specs.Steps.{Machine, Setting, ended, Progress, at, inverts, stopped, execute, unless, step}
 use Rattle.bench.specs.Effects.{effectOf, effectFrom, eventWords, hasRoom, statusAfter, applied, machineOf}
 use Rattle.bench.specs.declared.Fault.{Fault}
 use Rattle.bench.specs.declared.State.{State}
-use Rattle.bench.specs.declared.Outcome.{Outcome}
-use Rattle.bench.specs.declared.Outcome.the-variants.{Returned, Caught, Spent, Full}
+use Rattle.bench.specs.declared.Outcome.the-variants.{Full}
 use Rattle.bench.specs.declared.steps.Effect.{Effect}
 
 -- what follows a state by an effect

@@ -1,22 +1,20 @@
 -- A fault at a place that is not reached changes nothing; so a run with a branch inverted is the undisturbed one up to that branch.
 -- Assumes nothing.
 use mathlib.Core.Path.{_≡_, refl, sym, ap, _∙_}
-use mathlib.Core.Bool.{Bool, true, false, cond}
 use mathlib.Core.List.{List}
-use Prim.Native.Nat.{ℕ, zero, suc, _+_, _-_, _≤_, _<_}
+use Prim.Native.Nat.{ℕ, zero, suc, _+_, _-_, _≤_}
 use native.Mathlib.Omega.{arith}
 use borrow.Author.Tests.{ne-eqb}
 use lib.ListN.{take}
-use Rattle.graph.specs.Nodes.{Node, go, branch, ret, stop, const, op, input, output}
+use Rattle.graph.specs.Nodes.{Node, go, branch, ret, stop}
 use Rattle.bench.specs.Steps.{Machine, Setting, Status, going, ended, Progress, at, start, stopped, execute, unless, step}
 use Rattle.bench.specs.Effects.{machineOf}
 use Rattle.bench.specs.Runs.{nextOf, next, after, runOf}
 use Rattle.bench.specs.Ready.{restOf}
 use Rattle.bench.proofs.Rounds.{after-add}
-use Rattle.bench.proofs.Growth.{Grown, grown-next}
+use Rattle.bench.proofs.Growth.{grown-next}
 use Rattle.bench.specs.declared.Fault.{Fault}
 use Rattle.bench.specs.declared.Fault.the-variants.{Undisturbed, Inverted}
-use Rattle.bench.specs.declared.Outcome.{Outcome}
 use Rattle.bench.specs.declared.State.{State}
 
 module _ (s : Setting) (place : ℕ) where

@@ -1,9 +1,9 @@
 -- What a fork leaves in its buffer, and that its class is found by comparing only the words after those it shares with the reference.
 -- Assumes nothing.
 use mathlib.Core.Path.{_≡_, refl, sym, ap, _∙_}
-use mathlib.Core.Bool.{Bool, true, false, cond, _&&_}
-use mathlib.Core.List.{List, [], _∷_, _++_}
-use Prim.Native.Nat.{ℕ, _+_, _-_, _≤_, _<_}
+use mathlib.Core.Bool.{Bool}
+use mathlib.Core.List.{List}
+use Prim.Native.Nat.{ℕ, _-_, _≤_}
 use native.Mathlib.Omega.{arith}
 use lib.Dec.{eqb}
 use lib.ListN.{length, take, drop, length-append}
@@ -12,10 +12,10 @@ use Rattle.words.specs.Buffer.{put, over}
 use Rattle.words.proofs.Puts.{put-over, length-put}
 use Rattle.bench.specs.Steps.{Setting, Progress, going, at}
 use Rattle.bench.specs.Effects.{machineOf}
-use Rattle.bench.specs.Runs.{after, settled}
-use Rattle.bench.specs.Ready.{End, Ready, settingOf, restOf, endedOf}
-use Rattle.bench.specs.Campaigns.{Class, classOf, prefixOf, tallied}
-use Rattle.bench.specs.Classes.{Few, Shared, classBy, classFor, forkClass}
+use Rattle.bench.specs.Runs.{settled}
+use Rattle.bench.specs.Ready.{End, Ends, Ready, settingOf, restOf, endedOf}
+use Rattle.bench.specs.Campaigns.{Class, classOf, prefixOf}
+use Rattle.bench.specs.Classes.{Shared, classBy, forkClass}
 use Rattle.bench.proofs.Bounds.{Within, within-after}
 use Rattle.bench.proofs.Growth.{Grown, grown-after}
 use Rattle.bench.proofs.Prefixes.{prefix-from}
@@ -24,7 +24,6 @@ use Rattle.bench.specs.declared.Fault.the-variants.{Inverted}
 use Rattle.bench.specs.declared.State.{State}
 use Rattle.bench.specs.declared.Outcome.{Outcome}
 use Rattle.bench.specs.declared.Outcome.the-variants.{Returned, Caught, Spent, Full}
-use Rattle.bench.specs.declared.Score.{Score}
 
 -- what was put at the front is found there
 pub take-put : (l ws : List ℕ) (n : ℕ) → length ws ≤ length l → n ≤ length ws → take n (put l 0 ws) ≡ take n ws
@@ -85,7 +84,13 @@ module _ (table inputs reference : List ℕ) (total : ℕ) (buffer : List ℕ) (
   fits : length (fork .machine .events) ≤ length buffer
   fits = rest-fits table s (Inverted (state .branches)) budget state words buffer (budget - state .steps) ready (shared .room) refl
 
-  module _ (made : ended ≡ endedOf fork) (wrote : last ≡ put buffer 0 (fork .machine .events)) where
+  module _ (ends : Ends fork buffer ended last) where
+    made : ended ≡ endedOf fork
+    made = ends .0
+
+    wrote : last ≡ put buffer 0 (fork .machine .events)
+    wrote = ends .1
+
     count : ended .words ≡ length (fork .machine .events)
     count = ap (λ (r : End). r .words) made
 

@@ -2,16 +2,15 @@
 -- Assumes nothing.
 use mathlib.Core.Path.{_≡_, refl, sym, ap, _∙_, subst}
 use mathlib.Core.Bool.{Bool, true, false}
-use mathlib.Core.List.{List, [], _∷_, _++_, append-nil, append-assoc}
+use mathlib.Core.List.{List, [], _++_, append-nil, append-assoc}
 use Prim.Native.Nat.{ℕ, zero, suc, _+_, _≤_}
 use native.Mathlib.Omega.{arith}
 use lib.ListN.{length}
-use Rattle.bench.specs.Steps.{Machine, Setting, Status, going, ended, Progress, at}
+use Rattle.bench.specs.Steps.{Machine, Setting, Status, going, ended, Progress}
 use Rattle.bench.specs.Effects.{effectFrom, eventWords, hasRoom}
 use Rattle.bench.specs.Runs.{nextOf, next, after, stateOf}
 use Rattle.bench.proofs.Effects.{followed, step-effect}
 use Rattle.bench.specs.declared.Fault.{Fault}
-use Rattle.bench.specs.declared.Outcome.{Outcome}
 use Rattle.bench.specs.declared.steps.Effect.{Effect}
 
 -- n is a later machine of the same run

@@ -1,11 +1,11 @@
 -- Laws of rounds: they add up, from the front as from the back, and a run that has ended stays as it is.
 -- Assumes nothing.
-use mathlib.Core.Path.{_≡_, refl, sym, ap, _∙_}
+use mathlib.Core.Path.{_≡_, refl, ap, _∙_}
 use Prim.Native.Nat.{ℕ, zero, suc, _+_, _-_, _≤_}
 use native.Mathlib.Nat.{add-zero, add-suc}
 use native.Mathlib.Numerals.{add-one}
 use native.Mathlib.Omega.{arith}
-use Rattle.bench.specs.Steps.{Machine, Setting, Status, going, ended, Progress, at, step}
+use Rattle.bench.specs.Steps.{Machine, Setting, going, ended, Progress, at, step}
 use Rattle.bench.specs.Runs.{next, after}
 use Rattle.bench.specs.declared.Fault.{Fault}
 use Rattle.bench.specs.declared.Outcome.{Outcome}

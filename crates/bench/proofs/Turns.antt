@@ -3,28 +3,28 @@
 use mathlib.Core.Path.{_≡_, refl, sym, ap, _∙_}
 use mathlib.Core.Bool.{Bool, true, false, cond}
 use mathlib.Core.Logic.{_⊎_, inl, inr}
-use mathlib.Core.List.{List, [], _∷_, _++_}
-use Prim.Native.Nat.{ℕ, zero, suc, _+_, _-_, _*_, _≤_, _<_}
+use mathlib.Core.List.{List, _++_}
+use Prim.Native.Nat.{ℕ, _+_, _-_, _≤_, _<_}
 use native.Mathlib.Nat.{sub-self}
 use native.Mathlib.Omega.{arith}
 use lib.ListN.{length, getD, take, drop, length-set, length-append, take-append-drop}
 use lib.Seq.{length-take-le}
 use Rattle.words.specs.Buffer.{put, over}
 use Rattle.words.proofs.Puts.{put-at, put-over, length-put}
-use Rattle.graph.specs.Nodes.{Node, go, branch, ret, stop, const, op, input, output, register, constant, nodeAt}
+use Rattle.graph.specs.Nodes.{Node, go, branch, ret, stop, const, op, input, output, register, nodeAt}
 use Rattle.graph.specs.Accepted.{NodeIn}
 use Rattle.bench.specs.Words.{compare}
-use Rattle.bench.specs.Steps.{Machine, Setting, Status, going, ended, Progress, at, inverts, flip, step}
+use Rattle.bench.specs.Steps.{Setting, Status, going, ended, Progress, at, inverts, flip}
 use Rattle.bench.specs.Effects.{comparand, effectOf, effectFrom, eventWords, hasRoom, statusAfter, applied, machineOf}
 use Rattle.bench.specs.Runs.{next, after, settled}
-use Rattle.bench.specs.Ready.{End, Inside, Ready, Halted, Proceeds, settingOf, restOf, endedOf, endedWith}
+use Rattle.bench.specs.Ready.{End, Ends, Ready, Halted, Proceeds, settingOf, restOf, endedWith}
 use Rattle.bench.proofs.Bounds.{Counts, counts}
 use Rattle.bench.proofs.Effects.{followed, step-effect}
 use Rattle.bench.proofs.Rounds.{after-none, after-more, next-going, ended-stays}
 use Rattle.bench.specs.declared.Fault.{Fault}
 use Rattle.bench.specs.declared.State.{State}
 use Rattle.bench.specs.declared.Outcome.{Outcome}
-use Rattle.bench.specs.declared.Outcome.the-variants.{Returned, Caught, Spent, Full}
+use Rattle.bench.specs.declared.Outcome.the-variants.{Spent, Full}
 use Rattle.bench.specs.declared.steps.Effect.{Effect}
 
 -- an effect of a node of the graph names a register below 64 and a node of the graph
@@ -106,7 +106,7 @@ module _ (s : Setting) (fault : Fault) (p : Progress) (buffer : List ℕ) where
 
   -- the run has ended so after n rounds
   abbrev pub EndsAs : ℕ → End → List ℕ → Type 0
-  EndsAs n r held = (r ≡ endedOf (after s fault p n)) × (held ≡ put buffer 0 (after s fault p n .machine .events))
+  EndsAs n r held = Ends (after s fault p n) buffer r held
 
   ends-as : (n : ℕ) (state : State) (events : List ℕ) (status : Status) (words : ℕ) (held : List ℕ) → after s fault p n ≡ at (machineOf state events) status → length events ≡ words → held ≡ put buffer 0 events → EndsAs n (record { outcome = settled status; state = state; words = words }) held
   ends-as n state events status words held here count holds = rw (here, ← count) (refl, holds)
@@ -168,7 +168,7 @@ module _ (table inputs : List ℕ) (room : ℕ) (fault : Fault) (from : State) (
       → Proceeds table inputs room fault from words buffer budget until r last
   unfolding restOf
   proceeds-whole r last h ends =
-      record { rounds = budget - from .steps; ended = ends .0; wrote = ends .1; within = h; stands = inl refl }
+      record { rounds = budget - from .steps; ends = ends; within = h; stands = inl refl }
 
   -- a run that is halted at a branch
   pub proceeds-halted : (state : State) (words′ : ℕ) (held : List ℕ) → Ready table budget state → from .steps ≤ state .steps
@@ -181,20 +181,17 @@ module _ (table inputs : List ℕ) (room : ℕ) (fault : Fault) (from : State) (
       let ends = turn-none s fault (going-at from words buffer) buffer rounds rounds state words′ held r refl in
       record {
         rounds = rounds;
-        ended = ends .0;
-        wrote = ends .1;
+        ends = ends;
         within = omega arith;
         stands = inr (rw (r .here) (record { ready = ready; below = below; branches = at-until; steps = omega arith; status = refl }));
       }
 
 -- a run that may execute as many branches as it has steps is not halted
 pub finish-whole : (table inputs : List ℕ) (room : ℕ) (fault : Fault) (from : State) (words : ℕ) (buffer : List ℕ) (budget : ℕ) (r : End) (last : List ℕ) → Proceeds table inputs room fault from words buffer budget budget r last
-    → (r ≡ endedOf (restOf (settingOf table inputs room) fault from words buffer (budget - from .steps)))
-    × (last ≡ put buffer 0 (restOf (settingOf table inputs room) fault from words buffer (budget - from .steps) .machine .events))
+    → Ends (restOf (settingOf table inputs room) fault from words buffer (budget - from .steps)) buffer r last
 finish-whole table inputs room fault from words buffer budget r last p = by (p .stands)
   where
     by : (p .rounds ≡ budget - from .steps) ⊎ Halted table budget budget from (p .rounds) (restOf (settingOf table inputs room) fault from words buffer (p .rounds))
-        → (r ≡ endedOf (restOf (settingOf table inputs room) fault from words buffer (budget - from .steps)))
-        × (last ≡ put buffer 0 (restOf (settingOf table inputs room) fault from words buffer (budget - from .steps) .machine .events))
-    by (inl e) = rw (← e) (p .ended, p .wrote)
+        → Ends (restOf (settingOf table inputs room) fault from words buffer (budget - from .steps)) buffer r last
+    by (inl e) = rw (← e) (p .ends)
     by (inr h) = absurd (omega (arith, h .ready .branches, h .branches, h .below))

@@ -2,19 +2,19 @@
 -- Assumes nothing.
 use mathlib.Core.Path.{_≡_, refl, sym, ap, _∙_, subst}
 use mathlib.Core.Logic.{_⊎_, inl, inr}
-use mathlib.Core.List.{List, _++_}
-use Prim.Native.Nat.{ℕ, _+_, _-_, _^_, _≤_, _<_}
+use mathlib.Core.List.{List}
+use Prim.Native.Nat.{ℕ, _+_, _-_, _≤_, _<_}
 use native.Mathlib.Omega.{arith}
 use lib.ListN.{length, take, length-append}
 use lib.Seq.{length-take-le, take-at}
 use Rattle.words.proofs.Puts.{length-put}
-use Rattle.bench.specs.Steps.{Machine, Setting, Status, going, Progress, at, start}
+use Rattle.bench.specs.Steps.{Setting, going, Progress, at, start}
 use Rattle.bench.specs.Effects.{machineOf}
 use Rattle.bench.specs.Runs.{after, runOf, settled, stateOf}
 use Rattle.bench.specs.Ready.{End, Ready, Halted, Proceeds, settingOf, restOf, endedOf}
 use Rattle.bench.specs.Campaigns.{classOf, tallied, classAt, scoreBelow}
-use Rattle.bench.specs.Classes.{Shared, Reference, forkClass}
-use Rattle.bench.proofs.Growth.{Grown, grown-after}
+use Rattle.bench.specs.Classes.{Shared, Referred, forkClass}
+use Rattle.bench.proofs.Growth.{grown-after}
 use Rattle.bench.proofs.Faults.{rest-is-run, fork-is-run}
 use Rattle.bench.proofs.Forks.{take-put-all, rest-fits}
 use Rattle.bench.proofs.Tallies.{score-more}
@@ -40,7 +40,7 @@ module _ (table inputs : List ℕ) (room entry budget : ℕ) where
 
   module _ (place : ℕ) (state : State) (words : ℕ) (held : List ℕ) (w : Walked place state words held) where
     -- the events so far are the first of the reference
-    pub walk-shared : (buffer : List ℕ) (total positions : ℕ) → Reference s entry budget buffer total positions → Shared buffer total held words
+    pub walk-shared : (buffer : List ℕ) (total positions : ℕ) → Referred s entry budget buffer total positions → Shared buffer total held words
     unfolding restOf
     walk-shared buffer total positions r =
         let left = budget - state .steps in
@@ -89,7 +89,7 @@ module _ (table inputs : List ℕ) (room entry budget : ℕ) where
           let ready = w .ready in
           let all : state .steps + p .rounds ≡ budget = omega arith in
           let final : next .state .branches ≡ positions =
-          ap (λ (r : End). r .state .branches) (p .ended ∙ ap endedOf (run (p .rounds) ∙ ap (runOf s Undisturbed entry) all)) ∙ sym is in
+          ap (λ (r : End). r .state .branches) (p .ends .0 ∙ ap endedOf (run (p .rounds) ∙ ap (runOf s Undisturbed entry) all)) ∙ sym is in
           let within = p .within in
           omega arith
 
@@ -97,12 +97,12 @@ module _ (table inputs : List ℕ) (room entry budget : ℕ) where
       halted h =
           let q = restOf s Undisturbed state words buffer (p .rounds) in
           let fit = rest-fits table s Undisturbed budget state words buffer (p .rounds) (w .ready) fits′ room′ in
-          let count : next .words ≡ length (q .machine .events) = ap (λ (r : End). r .words) (p .ended) in
-          let found : take (next .words) last ≡ q .machine .events = ap (take (next .words)) (p .wrote) ∙ take-put-all buffer (q .machine .events) (next .words) fit count in
-          let long = ap length (p .wrote) ∙ length-put buffer 0 (q .machine .events) in
+          let count : next .words ≡ length (q .machine .events) = ap (λ (r : End). r .words) (p .ends .0) in
+          let found : take (next .words) last ≡ q .machine .events = ap (take (next .words)) (p .ends .1) ∙ take-put-all buffer (q .machine .events) (next .words) fit count in
+          let long = ap length (p .ends .1) ∙ length-put buffer 0 (q .machine .events) in
           let kept = w .kept in
           let came : runOf s Undisturbed entry (q .machine .steps) ≡ q = ap (runOf s Undisturbed entry) (h .steps) ∙ sym (run (p .rounds)) in
-          subst (λ (state : State). Walked (place + 1) state (next .words) last) (sym (ap (λ (r : End). r .state) (p .ended)))
+          subst (λ (state : State). Walked (place + 1) state (next .words) last) (sym (ap (λ (r : End). r .state) (p .ends .0)))
           (record {
             ready = h .ready;
             here = came ∙ ap (at (q .machine)) (h .status) ∙ ap (λ (l : List ℕ). at (machineOf (stateOf (q .machine)) l) going) (sym found);

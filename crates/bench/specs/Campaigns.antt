@@ -9,11 +9,10 @@ use Rattle.words.specs.Answer.{Answer, given, refused, demand, andThen, written
 use Rattle.words.specs.Buffer.{over}
 use Rattle.graph.specs.Nodes.{nodeAt}
 use Rattle.graph.specs.Checks.{runnableCheck}
-use Rattle.bench.specs.Steps.{Machine, Setting, Status, going, ended, Progress, start}
+use Rattle.bench.specs.Steps.{Machine, Setting}
 use Rattle.bench.specs.Runs.{runOf, settled, mostSteps}
 use Rattle.bench.specs.declared.CampaignAnswer.{CampaignAnswer}
 use Rattle.bench.specs.declared.CampaignAnswer.the-variants.{Scored, Refused}
-use Rattle.bench.specs.declared.Fault.{Fault}
 use Rattle.bench.specs.declared.Fault.the-variants.{Undisturbed, Inverted}
 use Rattle.bench.specs.declared.Outcome.{Outcome}
 use Rattle.bench.specs.declared.Outcome.the-variants.{Returned, Caught, Spent, Full}

@@ -5,11 +5,14 @@ use mathlib.Core.Bool.{Bool, cond, _&&_}
 use mathlib.Core.Path.{_≡_}
 use mathlib.Core.List.{List}
 use lib.Dec.{eqb}
-use lib.ListN.{length, take}
+use lib.ListN.{length, take, replicate}
+use Rattle.words.specs.Answer.{written}
+use Rattle.words.specs.Buffer.{over}
 use Rattle.bench.specs.Steps.{Setting}
 use Rattle.bench.specs.Runs.{runOf, settled}
-use Rattle.bench.specs.Ready.{restOf}
-use Rattle.bench.specs.Campaigns.{classOf, Class, caught, late, harmless, changed, unended}
+use Rattle.bench.specs.Ready.{settingOf, restOf}
+use Rattle.bench.specs.Campaigns.{campaignOf, scoreAnswer, classOf, Class, caught, late, harmless, changed, unended}
+use Rattle.bench.specs.declared.CampaignAnswer.{CampaignAnswer}
 use Rattle.bench.specs.declared.Fault.the-variants.{Undisturbed, Inverted}
 use Rattle.bench.specs.declared.State.{State}
 use Rattle.bench.specs.declared.Outcome.{Outcome}
@@ -38,17 +41,26 @@ forkClass s value reference state words buffer rounds =
     let p = restOf s (Inverted (state .branches)) state words buffer rounds in
     classOf value reference (settled (p .status)) (p .machine .events)
 
--- the reference's events in one buffer, the first of them in the other too
+-- the reference's events at the head of one buffer, the first of them at the head of another too
 pub record Shared (reference : List ℕ) (total : ℕ) (buffer : List ℕ) (words : ℕ) : Type 0 where
   pub whole : total ≤ length reference
   pub part : words ≤ total
   pub room : words ≤ length buffer
   pub same : take words buffer ≡ take words (take total reference)
 
+-- what the score of a checked graph answers and writes
+abbrev pub Reported : List ℕ → List ℕ → List ℕ → List ℕ → ℕ → ℕ → CampaignAnswer → List ℕ → List ℕ → Type 0
+Reported table inputs first second entry budget r last cleared =
+    let s = settingOf table inputs (length first) in
+    let answer = scoreAnswer s entry budget in
+    (campaignOf r ≡ answer)
+    × ((last ≡ written answer (λ _. over (runOf s Undisturbed entry budget .machine .events) first) first)
+    × (cleared ≡ written answer (λ _. replicate (length second) 0) second))
+
 -- the undisturbed run's events at the head of a buffer, and how many branches it executed
-pub record Reference (s : Setting) (entry budget : ℕ) (buffer : List ℕ) (total positions : ℕ) : Type 0 where
-  pub whole : total ≤ length buffer
-  pub events : take total buffer ≡ runOf s Undisturbed entry budget .machine .events
+pub record Referred (s : Setting) (entry budget : ℕ) (buffer : List ℕ) (words positions : ℕ) : Type 0 where
+  pub whole : words ≤ length buffer
+  pub events : take words buffer ≡ runOf s Undisturbed entry budget .machine .events
   pub branches : positions ≡ runOf s Undisturbed entry budget .machine .branches
 
 -- counts that one more fits

@@ -1,9 +1,9 @@
--- Document 01, "Running and scoring": what one step does, as an effect on a machine, and that a step applies it.
+-- Document 01, "Running and scoring": what one step does, as an effect on the machine that is small enough to hand back by value.
 -- Assumes nothing.
-use Prim.Native.Nat.{ℕ, _+_, _*_, _≤_, _<_}
+use Prim.Native.Nat.{ℕ, _+_, _*_}
 use mathlib.Core.Bool.{Bool, true, cond}
-use mathlib.Core.List.{List, [], _∷_, _++_}
-use lib.ListN.{length, getD, set}
+use mathlib.Core.List.{List, [], _∷_}
+use lib.ListN.{getD, set}
 use lib.Dec.{leb}
 use Rattle.graph.specs.Nodes.{Node, go, branch, ret, stop, const, op, input, output, register, constant, nodeOf, Operand}
 use Rattle.graph.specs.Accepted.{NodeIn}
@@ -11,7 +11,6 @@ use Rattle.bench.specs.Words.{operate, compare}
 use Rattle.bench.specs.Steps.{Machine, Setting, Status, going, ended, inverts, flip}
 use Rattle.bench.specs.declared.Fault.{Fault}
 use Rattle.bench.specs.declared.State.{State}
-use Rattle.bench.specs.declared.Outcome.{Outcome}
 use Rattle.bench.specs.declared.Outcome.the-variants.{Returned, Caught}
 use Rattle.bench.specs.declared.steps.Effect.{Effect}
 use Rattle.bench.specs.declared.steps.Row.{Row}

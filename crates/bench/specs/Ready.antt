@@ -51,6 +51,10 @@ pub record End : Type 0 where
 abbrev pub endedOf : Progress → End
 endedOf p = record { outcome = settled (p .status); state = stateOf (p .machine); words = length (p .machine .events) }
 
+-- a run has come so far, and its events are put over the head of a buffer
+abbrev pub Ends : Progress → List ℕ → End → List ℕ → Type 0
+Ends p buffer r last = (r ≡ endedOf p) × (last ≡ put buffer 0 (p .machine .events))
+
 abbrev pub endedWith : Outcome → State → ℕ → End
 endedWith outcome state words = record { outcome = outcome; state = state; words = words }
 
@@ -83,10 +87,9 @@ pub record Halted (table : List ℕ) (budget until : ℕ) (from : State) (rounds
   pub steps : p .machine .steps ≡ from .steps + rounds
   pub status : p .status ≡ going
 
--- what is left of a run is made whole, or up to a branch: its end, and what its buffer then holds
+-- what is left of a run is made whole, or up to a branch
 pub record Proceeds (table inputs : List ℕ) (room : ℕ) (fault : Fault) (from : State) (words : ℕ) (buffer : List ℕ) (budget until : ℕ) (r : End) (last : List ℕ) : Type 0 where
   pub rounds : ℕ
-  pub ended : r ≡ endedOf (restOf (settingOf table inputs room) fault from words buffer rounds)
-  pub wrote : last ≡ put buffer 0 (restOf (settingOf table inputs room) fault from words buffer rounds .machine .events)
+  pub ends : Ends (restOf (settingOf table inputs room) fault from words buffer rounds) buffer r last
   pub within : r .state .branches ≤ until
   pub stands : (rounds ≡ budget - from .steps) ⊎ Halted table budget until from rounds (restOf (settingOf table inputs room) fault from words buffer rounds)

@@ -14,7 +14,6 @@ use Rattle.bench.specs.declared.Outcome.{Outcome}
 use Rattle.bench.specs.declared.Outcome.the-variants.{Spent}
 use Rattle.bench.specs.declared.RunAnswer.{RunAnswer}
 use Rattle.bench.specs.declared.State.{State}
-use Rattle.bench.specs.declared.Verdict.{Verdict}
 use Rattle.bench.specs.declared.Verdict.the-variants.{Ran, Refused}
 
 -- one step where the run is going; a run that has ended stays as it is

@@ -1,17 +1,17 @@
 -- Document 01, "Running and scoring": one step of a run on a decoded node.
 -- Assumes nothing.
-use Prim.Native.Nat.{ℕ, zero, suc, _+_}
+use Prim.Native.Nat.{ℕ, _+_}
 use mathlib.Core.Bool.{Bool, true, false, cond, not}
 use mathlib.Core.List.{List, [], _∷_, _++_}
 use mathlib.Core.Option.{Option, none, some}
 use lib.ListN.{length, getD, set, replicate}
-use lib.Dec.{eqb, ltb, leb}
+use lib.Dec.{eqb, leb}
 use Rattle.graph.specs.Nodes.{Node, go, branch, ret, stop, Action, const, op, input, output, Operand, register, constant}
 use Rattle.bench.specs.Words.{operate, compare}
 use Rattle.bench.specs.declared.Fault.{Fault}
 use Rattle.bench.specs.declared.Fault.the-variants.{Undisturbed, Inverted}
 use Rattle.bench.specs.declared.Outcome.{Outcome}
-use Rattle.bench.specs.declared.Outcome.the-variants.{Returned, Caught, Spent, Full}
+use Rattle.bench.specs.declared.Outcome.the-variants.{Returned, Caught, Full}
 
 -- the registers, the node to execute next, the counts, and the words of the events so far
 pub record Machine : Type 0 where

@@ -1,19 +1,18 @@
 // A campaign: the checks, a trial run that writes nothing, then the reference and the score of its branches.
 ghost use mathlib.Core.Path.{_≡_};
-ghost use lib.ListN.{length, replicate};
-ghost use Rattle.words.specs.Answer.{written};
-ghost use Rattle.words.specs.Buffer.{over};
+ghost use lib.ListN.{length};
 ghost use Rattle.bench.specs.Steps.{start};
-ghost use Rattle.bench.specs.Runs.{runOf, stateOf};
-ghost use Rattle.bench.specs.Ready.{Ready, settingOf};
-ghost use Rattle.bench.specs.Campaigns.{campaignOf, scoreAnswer, campaignAnswer, campaignFirst, campaignSecond};
-ghost use Rattle.bench.specs.declared.Fault.the-variants.{Undisturbed};
+ghost use Rattle.bench.specs.Runs.{stateOf};
+ghost use Rattle.bench.specs.Ready.{Ready};
+ghost use Rattle.bench.specs.Classes.{Reported};
+ghost use Rattle.bench.specs.Campaigns.{campaignOf, campaignAnswer, campaignFirst, campaignSecond};
 use crate::CampaignAnswer;
 use crate::Fault;
 use crate::MOST_STEPS;
 use crate::Outcome;
 use crate::runs;
 use crate::scores;
+use crate::scores::Reference;
 use graph::Check;
 
 // The score of a checked graph. Refusal 13 leaves both buffers as they stood, so the first of the two undisturbed runs has no room
@@ -28,46 +27,32 @@ fn scored(
 ) -> CampaignAnswer
     requires { ⌜ Ready (now table) budget (stateOf (start entry)) ⌝ }
     requires { ⌜ length (now first) ≡ length (now second) ⌝ }
-    ensures { λ r. ⌜ campaignOf r ≡ scoreAnswer (settingOf (now (table .entry)) (now (inputs .entry)) (length (now (first .entry)))) entry budget ⌝ }
-    ensures { λ _. ⌜ now (first .exit) ≡ written (scoreAnswer (settingOf (now (table .entry)) (now (inputs .entry)) (length (now (first .entry)))) entry budget) (λ _. over (runOf (settingOf (now (table .entry)) (now (inputs .entry)) (length (now (first .entry)))) Undisturbed entry budget .machine .events) (now (first .entry))) (now (first .entry)) ⌝ }
-    ensures { λ _. ⌜ now (second .exit) ≡ written (scoreAnswer (settingOf (now (table .entry)) (now (inputs .entry)) (length (now (first .entry)))) entry budget) (λ _. replicate (length (now (second .entry))) 0) (now (second .entry)) ⌝ }
+    ensures { λ r. ⌜ Reported (now (table .entry)) (now (inputs .entry)) (now (first .entry)) (now (second .entry)) entry budget r (now (first .exit)) (now (second .exit)) ⌝ }
 {
     let room = first.len();
     let mut nowhere: [u32; 0] = [];
-    let trial = runs::whole(
-        table,
-        inputs,
-        &mut nowhere,
-        room,
-        entry,
-        budget,
-        Fault::Undisturbed,
-    );
+    let fault = Fault::Undisturbed;
+    let trial = runs::whole(table, inputs, &mut nowhere, room, entry, budget, fault);
     let outcome = trial.outcome;
     let Outcome::Returned(value) = outcome else {
         return CampaignAnswer::Refused(13, 0);
     };
-    let ended = runs::whole(
-        table,
-        inputs,
-        first,
-        room,
-        entry,
-        budget,
-        Fault::Undisturbed,
-    );
+    let ended = runs::whole(table, inputs, first, room, entry, budget, fault);
     let last = ended.state;
-    let total = ended.words;
+    let positions = last.branches;
+    let reference = Reference {
+        value,
+        words: ended.words,
+    };
     let score = scores::walk(
         table,
         inputs,
         first,
-        total,
-        value,
+        reference,
         second,
         entry,
         budget,
-        last.branches,
+        positions,
     );
     scores::clear(second);
     CampaignAnswer::Scored(score)

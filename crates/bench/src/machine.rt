@@ -1,7 +1,6 @@
 // A run of a table: the checks, then the run from the entry.
 ghost use mathlib.Core.Path.{_≡_};
 ghost use lib.ListN.{length};
-ghost use Rattle.words.specs.Answer.{Answer};
 ghost use Rattle.words.specs.Answer.Answer.{refused};
 ghost use Rattle.bench.specs.Runs.{answerOf, runAnswer, runEvents};
 use crate::Fault;
@@ -11,6 +10,7 @@ use crate::Verdict;
 use crate::runs;
 use graph::Check;
 
+// The answer of a refused run: its number and place, beside a state and a count of zeros.
 fn refused(number: u32, place: usize) -> RunAnswer
     ensures { λ r. ⌜ r ≡ answerOf (refused number place) ⌝ }
 {

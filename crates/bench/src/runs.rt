@@ -8,7 +8,7 @@ ghost use Rattle.words.specs.Buffer.{put};
 ghost use Rattle.bench.specs.Steps.{start};
 ghost use Rattle.bench.specs.Runs.{runOf, stateOf};
 ghost use Rattle.bench.specs.Effects.{hasRoom, eventWords, statusAfter};
-ghost use Rattle.bench.specs.Ready.{Ready, Proceeds, settingOf, restOf, endedOf, endedAt, endOf, runEnd, stateAt, standingAt, statusOf};
+ghost use Rattle.bench.specs.Ready.{Ready, Proceeds, Ends, settingOf, restOf, endedAt, endOf, runEnd, stateAt, standingAt, statusOf};
 use crate::Fault;
 use crate::Outcome;
 use crate::State;
@@ -100,6 +100,7 @@ fn write_event(events: &mut [u32], words: usize, sequel: Sequel, value: u32, roo
     }
 }
 
+// How a run ends where it stands.
 fn end(outcome: Outcome, at: At) -> Ended
     ensures { λ r. ⌜ r ≡ endedAt outcome at ⌝ }
 {
@@ -161,8 +162,7 @@ pub fn finish(
 ) -> Ended
     requires { ⌜ Ready (now table) budget (stateAt (now registers) from) ⌝ }
     requires { ⌜ from .words ≤ length (now events) ⌝ }
-    ensures { λ r. ⌜ endOf (now (registers .exit)) r ≡ endedOf (restOf (settingOf (now (table .entry)) (now (inputs .entry)) room) fault (stateAt (now (registers .entry)) from) (from .words) (now (events .entry)) (budget - from .steps)) ⌝ }
-    ensures { λ _. ⌜ now (events .exit) ≡ put (now (events .entry)) 0 (restOf (settingOf (now (table .entry)) (now (inputs .entry)) room) fault (stateAt (now (registers .entry)) from) (from .words) (now (events .entry)) (budget - from .steps) .machine .events) ⌝ }
+    ensures { λ r. ⌜ Ends (restOf (settingOf (now (table .entry)) (now (inputs .entry)) room) fault (stateAt (now (registers .entry)) from) (from .words) (now (events .entry)) (budget - from .steps)) (now (events .entry)) (endOf (now (registers .exit)) r) (now (events .exit)) ⌝ }
 {
     proceed(
         table,
@@ -177,6 +177,7 @@ pub fn finish(
     )
 }
 
+// Where a run stands, put together.
 pub fn standing(node: usize, steps: usize, branches: usize, reads: usize, words: usize) -> At
     ensures { λ r. ⌜ r ≡ standingAt node steps branches reads words ⌝ }
 {
@@ -189,6 +190,7 @@ pub fn standing(node: usize, steps: usize, branches: usize, reads: usize, words:
     }
 }
 
+// All registers at 0.
 fn zeros() -> [u32; 64]
     ensures { λ r. ⌜ r ≡ replicate 64 0 ⌝ }
 {
@@ -219,8 +221,7 @@ pub fn whole(
     fault: Fault,
 ) -> Run
     requires { ⌜ Ready (now table) budget (stateOf (start entry)) ⌝ }
-    ensures { λ r. ⌜ runEnd r ≡ endedOf (runOf (settingOf (now (table .entry)) (now (inputs .entry)) room) fault entry budget) ⌝ }
-    ensures { λ _. ⌜ now (events .exit) ≡ put (now (events .entry)) 0 (runOf (settingOf (now (table .entry)) (now (inputs .entry)) room) fault entry budget .machine .events) ⌝ }
+    ensures { λ r. ⌜ Ends (runOf (settingOf (now (table .entry)) (now (inputs .entry)) room) fault entry budget) (now (events .entry)) (runEnd r) (now (events .exit)) ⌝ }
 {
     let mut state = start(entry);
     let from = standing(entry, 0, 0, 0, 0);

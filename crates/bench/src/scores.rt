@@ -7,7 +7,7 @@ ghost use lib.ListN.{length, take, drop, replicate};
 ghost use Rattle.bench.specs.Campaigns.{prefixOf, tallied, noScore, scoreBelow};
 ghost use Rattle.bench.specs.Steps.{start};
 ghost use Rattle.bench.specs.Runs.{stateOf};
-ghost use Rattle.bench.specs.Classes.{Few, Shared, Reference, classBy, classFor, forkClass};
+ghost use Rattle.bench.specs.Classes.{Few, Shared, Referred, classBy, classFor, forkClass};
 ghost use Rattle.bench.specs.Ready.{Ready, settingOf};
 use crate::Fault;
 use crate::Outcome;
@@ -22,6 +22,12 @@ pub enum Class {
     Harmless,
     Changed,
     Unended,
+}
+
+// The reference's value, and how many words of events it made.
+pub struct Reference {
+    pub value: u32,
+    pub words: usize,
 }
 
 // Whether the first words of the events are a prefix of those of the reference, looked at from a place only.
@@ -42,6 +48,7 @@ fn agrees(reference: &[u32], total: usize, events: &[u32], words: usize, from: u
     true
 }
 
+// Whether a run that returned did so with the reference's value and events.
 fn unchanged(value: u32, other: u32, prefix: bool, whole: bool) -> bool
     ensures { λ r. ⌜ r ≡ (eqb other value && (prefix && whole)) ⌝ }
 {
@@ -98,6 +105,7 @@ fn tally(class: Class, score: Score) -> Score
     }
 }
 
+// The score of no position.
 fn none() -> Score
     ensures { λ r. ⌜ r ≡ noScore ⌝ }
 {
@@ -126,9 +134,8 @@ pub fn clear(buffer: &mut [u32])
 fn tried(
     table: &[u32],
     inputs: &[u32],
-    reference: &[u32],
-    total: usize,
-    value: u32,
+    first: &[u32],
+    reference: Reference,
     events: &mut [u32],
     budget: usize,
     from: State,
@@ -136,9 +143,9 @@ fn tried(
     score: Score,
 ) -> Score
     requires { ⌜ Ready (now table) budget from ⌝ }
-    requires { ⌜ Shared (now reference) total (now events) words ⌝ }
+    requires { ⌜ Shared (now first) (reference .words) (now events) words ⌝ }
     requires { ⌜ Few score ⌝ }
-    ensures { λ r. ⌜ r ≡ tallied (forkClass (settingOf (now (table .entry)) (now (inputs .entry)) (length (now (events .entry)))) value (take total (now (reference .entry))) from words (now (events .entry)) (budget - from .steps)) score ⌝ }
+    ensures { λ r. ⌜ r ≡ tallied (forkClass (settingOf (now (table .entry)) (now (inputs .entry)) (length (now (events .entry)))) (reference .value) (take (reference .words) (now (first .entry))) from words (now (events .entry)) (budget - from .steps)) score ⌝ }
     ensures { λ _. ⌜ take words (now (events .exit)) ≡ take words (now (events .entry)) ⌝ }
 {
     let room = events.len();
@@ -157,9 +164,12 @@ fn tried(
     );
     let end = ended.at;
     let made = end.words;
-    let prefix = agrees(reference, total, events, made, words);
+    let prefix = agrees(first, reference.words, events, made, words);
     let outcome = ended.outcome;
-    tally(classed(outcome, value, prefix, made == total), score)
+    tally(
+        classed(outcome, reference.value, prefix, made == reference.words),
+        score,
+    )
 }
 
 // The reference is walked once more, from branch to branch, and at each the run that inverts it is tried. Up to that branch both
@@ -167,17 +177,16 @@ fn tried(
 pub fn walk(
     table: &[u32],
     inputs: &[u32],
-    reference: &[u32],
-    total: usize,
-    value: u32,
+    first: &[u32],
+    reference: Reference,
     events: &mut [u32],
     entry: usize,
     budget: usize,
     positions: usize,
 ) -> Score
     requires { ⌜ Ready (now table) budget (stateOf (start entry)) ⌝ }
-    requires { ⌜ Reference (settingOf (now table) (now inputs) (length (now events))) entry budget (now reference) total positions ⌝ }
-    ensures { λ r. ⌜ r ≡ scoreBelow (settingOf (now (table .entry)) (now (inputs .entry)) (length (now (events .entry)))) entry budget value (take total (now (reference .entry))) positions ⌝ }
+    requires { ⌜ Referred (settingOf (now table) (now inputs) (length (now events))) entry budget (now first) (reference .words) positions ⌝ }
+    ensures { λ r. ⌜ r ≡ scoreBelow (settingOf (now (table .entry)) (now (inputs .entry)) (length (now (events .entry)))) entry budget (reference .value) (take (reference .words) (now (first .entry))) positions ⌝ }
 {
     let room = events.len();
     let mut state = runs::start(entry);
@@ -188,9 +197,8 @@ pub fn walk(
         score = tried(
             table,
             inputs,
+            first,
             reference,
-            total,
-            value,
             events,
             budget,
             state,

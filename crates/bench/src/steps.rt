@@ -38,6 +38,7 @@ pub fn inverts(fault: Fault, branches: usize) -> bool
     }
 }
 
+// The outcome of a test, the other one where it is inverted.
 fn flip(inverted: bool, outcome: bool) -> bool
     ensures { λ r. ⌜ r ≡ flip inverted outcome ⌝ }
 {
@@ -54,6 +55,7 @@ pub struct Row {
     pub z: u32,
 }
 
+// The row of a node.
 fn row_at(table: &[u32], node: usize) -> Row
     requires { ⌜ 6 * node + 6 ≤ length (now table) ⌝ }
     ensures { λ r. ⌜ r ≡ rowAt (now (table .entry)) node ⌝ }
@@ -98,6 +100,7 @@ fn kept(
     }
 }
 
+// One of two targets.
 fn either(test: bool, then: usize, other: usize) -> usize
     ensures { λ r. ⌜ r ≡ cond test then other ⌝ }
 {

@@ -15,7 +15,9 @@ enum-known-outcome : tie.Need-enum-known-outcome
 enum-known-outcome c = search needs
 
 returns : tie.Need-returns
-returns c = scored-none _ _ _ _ _ _ (runEnd (c .before .before .whole .result)) (c .before .before .whole .ensures .0) (c .match .keys2)
+returns c =
+    let trial = c .before .before .whole in
+    scored-none _ _ _ _ _ _ (runEnd (trial .result)) (trial .ensures .0) (c .match .keys2)
 
 whole-requires-2 : tie.Need-whole-requires-2
 whole-requires-2 c κs = search needs
@@ -24,7 +26,7 @@ walk-requires : tie.Need-walk-requires
 walk-requires c κs =
     let start = c .before .before .before .before .before .before .before .before .before .before .before .before .before .before .before .before .before in
     let made = c .before .before .before .before .before .whole2 in
-    (start .pre .0, reference-made _ _ _ (start .args .second .now) _ _ (runEnd (made .result)) _ (made .ensures .0) (made .ensures .1) (start .pre .1))
+    (start .pre .0, reference-made _ _ _ (start .args .second .now) _ _ (runEnd (made .result)) _ (made .ensures) (start .pre .1))
 
 clear-requires : tie.Need-clear-requires
 clear-requires c κs = search needs
@@ -42,7 +44,7 @@ returns-2 c =
     let made = c .before .before .before .before .before .before .before .before .before .before .before .before .whole2 in
     let returned = c .before .before .before .before .before .before .before .before .before .before .before .before .before .before .before .outcome .given .1 in
     let walk = c .before .before .before .before .before .before .walk in
-    scored-some _ _ _ (start .args .second .now) _ _ (runEnd (made .result)) _ (made .ensures .0) (made .ensures .1) (runEnd (trial .result)) _ (trial .ensures .0) returned (start .pre .1) _ (walk .ensures) _ _ (walk .kept .1 .1 .1 .1 .1 .0) (c .before .before .clear .ensures)
+    scored-some _ _ _ (start .args .second .now) _ _ (runEnd (made .result)) _ (made .ensures) (runEnd (trial .result)) _ (trial .ensures .0) returned (start .pre .1) _ (walk .ensures) _ _ (walk .kept .1 .1 .1 .1 .0) (c .before .before .clear .ensures)
 
 pub scored-spec : {M : Type 1} → statement M
 scored-spec =

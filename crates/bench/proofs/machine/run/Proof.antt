@@ -15,7 +15,8 @@ enum-told : tie.Need-enum-told
 enum-told c = search needs
 
 -- the graph is accepted
-accepted : (c : tie.After-enum-told) → runnableCheck (c .before .before .before .before .before .before .args .registers) (c .before .before .before .before .before .before .args .nodes) (c .before .before .before .before .before .before .args .entry) (c .before .before .before .before .before .before .args .table .now) ≡ given tt
+accepted : (c : tie.After-enum-told)
+    → let args = c .before .before .before .before .before .before .args in runnableCheck (args .registers) (args .nodes) (args .entry) (args .table .now) ≡ given tt
 accepted c = sym (c .before .before .check-runnable .ensures) ∙ ap checkOf (c .enum-told .given .1)
 
 refused-requires : tie.Need-refused-requires
@@ -38,8 +39,8 @@ same-length c = search needs
 
 returns-2 : tie.Need-returns-2
 returns-2 c =
-    let made = c .before .before .before .before .whole .ensures in
-    run-made _ _ _ _ _ _ _ _ (runEnd (c .before .before .before .before .whole .result)) _ (accepted (c .before .before .before .before .before .before .before)) (c .before .before .before .before .before .before .if1 .left) (made .0) (made .1)
+    let made = c .before .before .before .before .whole in
+    run-made _ _ _ _ _ _ _ _ (runEnd (made .result)) _ (accepted (c .before .before .before .before .before .before .before)) (c .before .before .before .before .before .before .if1 .left) (made .ensures)
 
 returns-3 : tie.Need-returns-3
 returns-3 c =

@@ -24,11 +24,11 @@ same-length c = search needs
 returns : tie.Need-returns
 unfolding start
 returns c =
-    let at = c .before .before .before .before .before .before .standing .ensures in
-    let state = c .before .before .before .before .before .before .before .start .ensures in
-    let f = c .before .before .before .finish .ensures in
     let args = c .before .before .before .before .before .before .before .before .before .before .before .args in
-    from-start (settingOf (args .table .now) (args .inputs .now) (args .room)) _ _ _ _ (stateAt (c .before .before .before .before .before .before .before .start .result .registers) (c .before .before .before .before .before .before .standing .result)) _ (rw (at, state)) (rw at) _ (f .0) _ (f .1)
+    let s = settingOf (args .table .now) (args .inputs .now) (args .room) in
+    let at = c .before .before .before .before .before .before .standing in
+    let state = c .before .before .before .before .before .before .before .start in
+    from-start s _ _ _ _ (stateAt (state .result .registers) (at .result)) _ (rw (at .ensures, state .ensures)) (rw (at .ensures)) _ _ (c .before .before .before .finish .ensures)
 
 pub whole-spec : {M : Type 1} → statement M
 whole-spec =

@@ -11,14 +11,14 @@ use Rattle.bench.proofs.scores.walk.Statement.{statement}
 use Rattle.bench.proofs.scores.walk.Tie as tie
 
 abbrev Inv-loop : tie.InvT-loop
-Inv-loop table inputs reference total value events₀ entry budget positions room state₀ words₀ score₀ place₀ events state words score place =
+Inv-loop table inputs first reference events₀ entry budget positions room state₀ words₀ score₀ place₀ events state words score place =
     (place ≤ positions)
-    × (score ≡ scoreBelow (settingOf table inputs room) entry budget value (take total reference) place)
+    × (score ≡ scoreBelow (settingOf table inputs room) entry budget (reference .value) (take (reference .words) first) place)
     × (length events ≡ room)
     × (place < positions → Walked table inputs room entry budget place state words events)
 
 abbrev μ-loop : tie.MeasureT-loop
-μ-loop table inputs reference total value events₀ entry budget positions room state₀ words₀ score₀ place₀ events state words score place =
+μ-loop table inputs first reference events₀ entry budget positions room state₀ words₀ score₀ place₀ events state words score place =
     positions - place
 
 start-requires : tie.Need-start-requires Inv-loop μ-loop
@@ -50,7 +50,7 @@ standing-requires c κs = tt
 proceed-requires : tie.Need-proceed-requires Inv-loop μ-loop
 proceed-requires c κs =
     let w = c .before .before .before .before .before .before .before .before .loop .inv .3 (c .before .before .before .before .before .before .before .loop-test .taken) in
-    let size = c .before .before .before .before .before .tried .kept .1 .1 .1 .1 .1 .0 in
+    let size = c .before .before .before .before .before .tried .kept .1 .1 .1 .1 .0 in
     rw (c .before .before .standing .ensures) (w .ready, (omega (arith, w .fits), omega (arith, w .branches)))
 
 loop-less : tie.Need-loop-less Inv-loop μ-loop
@@ -62,7 +62,7 @@ loop-again c =
     let below = c .before .before .before .before .before .before .before .before .before .before .before .loop-test .taken in
     let w = inv .3 below in
     let t = c .before .before .before .before .before .before .before .before .before .tried in
-    let size = t .kept .1 .1 .1 .1 .1 .0 in
+    let size = t .kept .1 .1 .1 .1 .0 in
     let long = c .before .before .before .proceed .kept .1 .1 .0 in
     let p = c .before .before .before in (
       omega arith,
