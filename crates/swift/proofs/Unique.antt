@@ -25,7 +25,7 @@ use Rattle.text.specs.Places.{Wrote}
 use Rattle.text.specs.declared.Decimal.{Decimal}
 use Rattle.desk.specs.Programs.{Print, Shown, printed, complained}
 use Rattle.desk.specs.declared.Printed.{Printed}
-use Rattle.swift.specs.Promises.{OneAnswer, OneBuffer, TwoBuffers, Word, NumberAt, Runnable, Source, RoleAt, FaultOf, Targets, CheckRunnable, CheckSource, Read, Harden, Run, Campaign, Byte, Piece, NumberText, AfterSpace, Spaced, Value, Listed, RunShown, ScoreShown, FileSpace, CellSpace, TextSpace}
+use Rattle.swift.specs.Promises.{OneAnswer, OneBuffer, TwoBuffers, Word, NumberAt, Runnable, Source, RoleAt, FaultOf, Targets, CheckRunnable, CheckSource, Read, Harden, Run, Campaign, Byte, Piece, NumberText, AfterSpace, Spaced, Value, Listed, RunShown, ScoreShown, FileSpace, CellSpace, TextSpace, RunPart, CampaignPart, HardenedNodes}
 
 -- ---- two answers of one meaning are one
 
@@ -195,3 +195,16 @@ unique-cell-space r s p q = same p q
 
 pub unique-text-space : OneAnswer TextSpace
 unique-text-space r s p q = same p q
+
+-- ---- yardstick
+
+module _ (registers nodes entry : ℕ) (table : List ℕ) where
+  pub unique-run-part : (inputs events : List ℕ) (budget part : ℕ) → OneBuffer (RunPart registers nodes entry table inputs events budget part)
+  unique-run-part inputs events budget part r s x y p q = (same (p .0) (q .0), same (p .1) (q .1))
+
+  pub unique-campaign-part : (inputs first second : List ℕ) (budget part : ℕ)
+      → TwoBuffers (CampaignPart registers nodes entry table inputs first second budget part)
+  unique-campaign-part inputs first second budget part r s x y v w p q = (same (p .0) (q .0), same (p .1) (q .1), same (p .2) (q .2))
+
+  pub unique-hardened-nodes : (out : List ℕ) → OneBuffer (HardenedNodes registers nodes entry table out)
+  unique-hardened-nodes out r s x y p q = (same (p .0) (q .0), same (p .1) (q .1))

@@ -25,6 +25,7 @@ use Rattle.harden.specs.declared.Hardening.{Hardening}
 use Rattle.bench.specs.Runs.{answerOf, runAnswer, runEvents}
 use Rattle.bench.specs.Campaigns.{campaignOf, campaignAnswer, campaignFirst, campaignSecond}
 use Rattle.bench.specs.declared.Fault.{Fault}
+use Rattle.bench.specs.declared.Fault.the-variants.{Undisturbed}
 use Rattle.bench.specs.declared.RunAnswer.{RunAnswer}
 use Rattle.bench.specs.declared.CampaignAnswer.{CampaignAnswer}
 use Rattle.text.specs.Decimals.{decimal, spaced, decimalOf, valueOf}
@@ -32,6 +33,7 @@ use Rattle.text.specs.Places.{Wrote}
 use Rattle.text.specs.declared.Decimal.{Decimal}
 use Rattle.desk.specs.Programs.{listText, runProgram, scoreProgram, Shown}
 use Rattle.desk.specs.declared.Printed.{Printed}
+use Rattle.yardstick.specs.Parts.{runPart, campaignPart, hardenedNodes}
 
 -- ---- one answer, and one content of each buffer
 
@@ -169,3 +171,23 @@ CellSpace r = r ≡ replicate 65616 0
 -- console::text_space
 abbrev pub TextSpace : List ℕ → Type 0
 TextSpace r = r ≡ replicate 196608 0
+
+-- ---- yardstick
+
+-- yardstick::yardstick_run
+abbrev pub RunPart : ℕ → ℕ → ℕ → List ℕ → List ℕ → List ℕ → ℕ → ℕ → ℕ → List ℕ → Type 0
+RunPart registers nodes entry table inputs events budget part r events′ =
+    (r ≡ runPart (answerOf (runAnswer registers nodes entry table inputs (length events) budget Undisturbed)) part)
+    × (events′ ≡ runEvents registers nodes entry table inputs events budget Undisturbed)
+
+-- yardstick::yardstick_campaign
+abbrev pub CampaignPart : ℕ → ℕ → ℕ → List ℕ → List ℕ → List ℕ → List ℕ → ℕ → ℕ → ℕ → List ℕ → List ℕ → Type 0
+CampaignPart registers nodes entry table inputs first second budget part r first′ second′ =
+    (r ≡ campaignPart (campaignAnswer registers nodes entry table inputs (length first) (length second) budget) part)
+    × (first′ ≡ campaignFirst registers nodes entry table inputs first second budget)
+    × (second′ ≡ campaignSecond registers nodes entry table inputs first second budget)
+
+-- yardstick::yardstick_harden
+abbrev pub HardenedNodes : ℕ → ℕ → ℕ → List ℕ → List ℕ → ℕ → List ℕ → Type 0
+HardenedNodes registers nodes entry table out r out′ =
+    (r ≡ hardenedNodes (hardenAnswer registers nodes entry table (length out))) × (out′ ≡ hardenOutput registers nodes entry table out)
