@@ -1,5 +1,5 @@
 -- Document 01, "Running and scoring": the class of a disturbed run, by what the code finds out of its events.
--- Assumes nothing.
+-- Only contracts of private functions cite this file: no public promise rests on it. Assumes nothing.
 use Prim.Native.Nat.{ℕ, _+_, _^_, _≤_, _<_}
 use mathlib.Core.Bool.{Bool, cond, _&&_}
 use mathlib.Core.Path.{_≡_}
@@ -21,6 +21,7 @@ use Rattle.bench.specs.declared.Score.{Score}
 use Rattle.bench.specs.declared.scores.Class as declared
 use Rattle.bench.specs.declared.scores.Class.the-variants as variant
 
+-- the class that each case of the code's stands for
 abbrev pub classFor : declared.Class → Class
 classFor variant.Caught = caught
 classFor variant.Late = late

@@ -1,5 +1,5 @@
 -- Document 01, "Running and scoring": what one step does, as an effect on the machine that is small enough to hand back by value.
--- Assumes nothing.
+-- Only contracts of private functions cite this file: no public promise rests on it. Assumes nothing.
 use Prim.Native.Nat.{ℕ, _+_, _*_}
 use mathlib.Core.Bool.{Bool, true, cond}
 use mathlib.Core.List.{List, [], _∷_}
@@ -17,6 +17,7 @@ use Rattle.bench.specs.declared.steps.Row.{Row}
 use Rattle.bench.specs.declared.steps.Sequel.{Sequel}
 use Rattle.bench.specs.declared.steps.Sequel.the-variants as sequel
 
+-- the six words of node n of a table
 abbrev pub rowAt : List ℕ → ℕ → Row
 rowAt table n =
     record { kind = getD table (6 * n) 0; v = getD table (6 * n + 1) 0; w = getD table (6 * n + 2) 0; x = getD table (6 * n + 3) 0; y = getD table (6 * n + 4) 0; z = getD table (6 * n + 5) 0 }
@@ -28,6 +29,7 @@ nodeOfRow r = nodeOf (r .kind) (r .v) (r .w) (r .x) (r .y) (r .z)
 abbrev pub RegistersIn : Node → Type 0
 RegistersIn node = (nodes : ℕ) × NodeIn 64 nodes node
 
+-- what a branch compares its register with
 abbrev pub comparand : List ℕ → Operand → ℕ
 comparand registers (register b) = getD registers b 0
 comparand registers (constant k) = k

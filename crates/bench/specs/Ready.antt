@@ -1,5 +1,5 @@
--- Document 01, "Running and scoring": what is known of a run under way on a checked graph. The private functions ask for it.
--- Assumes nothing.
+-- Document 01, "Running and scoring": what is known of a run under way on a checked graph, and how it ends.
+-- Only contracts of private functions cite this file: no public promise rests on it. Assumes nothing.
 use mathlib.Core.Path.{_≡_}
 use mathlib.Core.Logic.{_⊎_}
 use Prim.Native.Nat.{ℕ, _+_, _-_, _*_, _≤_, _<_}
@@ -35,6 +35,7 @@ pub record Ready (table : List ℕ) (budget : ℕ) (state : State) : Type 0 wher
   pub branches : state .branches ≤ state .steps
   pub reads : state .reads ≤ state .steps
 
+-- a table as what a graph is run in
 abbrev pub settingOf : List ℕ → List ℕ → ℕ → Setting
 settingOf table inputs room = record { graph = nodeAt table; inputs = inputs; room = room }
 
@@ -48,6 +49,7 @@ pub record End : Type 0 where
   pub state : State
   pub words : ℕ
 
+-- how a run stands that goes no further
 abbrev pub endedOf : Progress → End
 endedOf p = record { outcome = settled (p .status); state = stateOf (p .machine); words = length (p .machine .events) }
 
@@ -75,6 +77,7 @@ endedAt outcome at = record { outcome = outcome; at = at }
 abbrev pub endOf : List ℕ → Ended → End
 endOf registers r = endedWith (r .outcome) (stateAt registers (r .at)) (r .at .words)
 
+-- the status that each case of an ending stands for
 abbrev pub statusOf : Ending → Status
 statusOf Not = going
 statusOf (With outcome) = ended outcome
