@@ -1,0 +1,177 @@
+//! Both sides of a call: the proved entry point and the second program's.
+
+use crate::call::{Answered, Call, Entry, Held};
+use crate::lent::Lent;
+use linked::Header;
+use second::graph::Graph;
+use second::refusal::Refusal;
+use second::run::{Answer, Outcome};
+
+/// The proved side. Each number is a call of its own, on buffers that hold the same before; what
+/// they hold after it has to be the same too, and nothing around them may have changed.
+pub fn proved(call: &Call) -> Result<Answered, String> {
+    let mut buffers: Vec<Lent> = call.lent.iter().map(|content| Lent::new(content)).collect();
+    let mut answered = Answered {
+        numbers: Vec::new(),
+        lent: Vec::new(),
+    };
+    for part in 0..call.entry.numbers() {
+        let lent = buffers.iter_mut().map(Lent::anew).collect();
+        answered.numbers.push(proved_part(&call.entry, lent, part));
+        if !buffers.iter().all(Lent::kept) {
+            return Err(format!(
+                "number {part}: a word beside a lent buffer changed"
+            ));
+        }
+        if part == 0 {
+            answered.lent = buffers.iter().map(|lent| lent.content().to_vec()).collect();
+        }
+        if !buffers.iter().map(Lent::content).eq(answered.lent.iter()) {
+            return Err(format!(
+                "number {part}: the lent buffers hold something else"
+            ));
+        }
+    }
+    Ok(answered)
+}
+
+fn proved_part(entry: &Entry, mut lent: Vec<&mut [u32]>, part: usize) -> usize {
+    match (entry, &mut lent[..]) {
+        (Entry::Read { bytes }, [table]) => linked::read(bytes, table, part),
+        (Entry::CheckRunnable(Held { header, table }), []) => {
+            linked::check_runnable(header, table, part)
+        }
+        (Entry::CheckSource(Held { header, table }), []) => {
+            linked::check_source(header, table, part)
+        }
+        (Entry::Harden(Held { header, table }), [output]) => {
+            linked::harden(header, table, output, part)
+        }
+        (
+            Entry::Run {
+                graph: Held { header, table },
+                input,
+                budget,
+                fault,
+            },
+            [events],
+        ) => linked::run(header, table, input, events, *budget, *fault, part),
+        (
+            Entry::Campaign {
+                graph: Held { header, table },
+                input,
+                budget,
+            },
+            [first, second],
+        ) => linked::campaign(header, table, input, first, second, *budget, part),
+        _ => unreachable!("a call lends what its entry point takes"),
+    }
+}
+
+/// The second program's side.
+pub fn second(call: &Call) -> Answered {
+    let mut lent = call.lent.clone();
+    let mut numbers = match (&call.entry, &mut lent[..]) {
+        (Entry::Read { bytes }, [table]) => graph_numbers(second::file::read(bytes, table)),
+        (Entry::CheckRunnable(held), []) => {
+            let checked = second::table::check_runnable(&graph(&held.header), &held.table);
+            numbers(checked, |()| Vec::new())
+        }
+        (Entry::CheckSource(held), []) => {
+            let checked = second::table::check_source(&graph(&held.header), &held.table);
+            numbers(checked, |()| Vec::new())
+        }
+        (Entry::Harden(held), [output]) => graph_numbers(second::harden::harden(
+            &graph(&held.header),
+            &held.table,
+            output,
+        )),
+        (
+            Entry::Run {
+                graph: held,
+                input,
+                budget,
+                fault,
+            },
+            [events],
+        ) => {
+            let (graph, budget) = (graph(&held.header), word(*budget));
+            let fault = fault.map(word);
+            let answer = second::run::run(&graph, &held.table, input, events, budget, fault);
+            numbers(answer, run_numbers)
+        }
+        (
+            Entry::Campaign {
+                graph: held,
+                input,
+                budget,
+            },
+            [first, second],
+        ) => {
+            let (graph, budget) = (graph(&held.header), word(*budget));
+            let table = &held.table;
+            let score = second::campaign::campaign(&graph, table, input, first, second, budget);
+            numbers(score, |s| {
+                [
+                    s.positions,
+                    s.caught,
+                    s.late,
+                    s.harmless,
+                    s.changed,
+                    s.unended,
+                ]
+                .into()
+            })
+        }
+        _ => unreachable!("a call lends what its entry point takes"),
+    };
+    numbers.resize(call.entry.numbers(), 0);
+    Answered { numbers, lent }
+}
+
+/// The second program counts in words. The last word is out of every range that R, N, an entry and
+/// a budget have, and no run reaches a place so far, so it stands for every larger number.
+fn word(number: usize) -> u32 {
+    u32::try_from(number).unwrap_or(u32::MAX)
+}
+
+pub fn graph(header: &Header) -> Graph {
+    Graph {
+        registers: word(header.registers),
+        nodes: word(header.nodes),
+        entry: word(header.entry),
+    }
+}
+
+/// The refusal's number and place, or 0, 0 and what an accepted call answers.
+fn numbers<T>(answer: Result<T, Refusal>, rest: impl Fn(T) -> Vec<u32>) -> Vec<usize> {
+    let words = match answer {
+        Ok(given) => [vec![0, 0], rest(given)].concat(),
+        Err(refusal) => vec![refusal.number, refusal.place],
+    };
+    words.into_iter().map(|word| word as usize).collect()
+}
+
+fn graph_numbers(answer: Result<Graph, Refusal>) -> Vec<usize> {
+    numbers(answer, |g| [g.registers, g.nodes, g.entry].into())
+}
+
+fn run_numbers(answer: Answer) -> Vec<u32> {
+    let (outcome, value) = match answer.outcome {
+        Outcome::Returned(value) => (1, value),
+        Outcome::Caught => (2, 0),
+        Outcome::Spent => (3, 0),
+        Outcome::Full => (4, 0),
+    };
+    let (node, steps, branches) = (answer.node, answer.steps, answer.branches);
+    let counts = [
+        outcome,
+        value,
+        node,
+        steps,
+        branches,
+        answer.reads,
+        answer.events,
+    ];
+    [&counts[..], &answer.registers].concat()
+}
