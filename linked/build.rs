@@ -1,4 +1,4 @@
-//! Links the proved entry points, which `rt staticlib yardstick` writes.
+//! Links the proved entry points, which `rt staticlib yardstick` writes, for x86-64 alone.
 
 use std::path::Path;
 

@@ -3,6 +3,25 @@
 use linked::{Header, CHECK_NUMBERS, GRAPH_NUMBERS, RUN_NUMBERS, SCORE_NUMBERS};
 use std::fmt;
 
+#[derive(Clone, Copy, Debug, PartialEq, Eq, PartialOrd, Ord)]
+pub enum Entry {
+    Read,
+    CheckRunnable,
+    CheckSource,
+    Harden,
+    Run,
+    Campaign,
+}
+
+pub const ENTRIES: [Entry; 6] = [
+    Entry::Read,
+    Entry::CheckRunnable,
+    Entry::CheckSource,
+    Entry::Harden,
+    Entry::Run,
+    Entry::Campaign,
+];
+
 /// A header and a table that need not fit each other.
 #[derive(Clone, PartialEq, Eq)]
 pub struct Held {
@@ -10,37 +29,22 @@ pub struct Held {
     pub table: Vec<u32>,
 }
 
-/// An entry point with what it reads. What it writes stands beside, in the order of its arguments.
-#[derive(Clone)]
-pub enum Entry<'a> {
-    Read {
-        bytes: &'a [u8],
-    },
-    CheckRunnable(&'a Held),
-    CheckSource(&'a Held),
-    Harden(&'a Held),
-    Run {
-        graph: &'a Held,
-        input: &'a [u32],
-        budget: usize,
-        fault: Option<usize>,
-    },
-    Campaign {
-        graph: &'a Held,
-        input: &'a [u32],
-        budget: usize,
-    },
-}
-
+/// An entry point takes the bytes or the table, and a run and a campaign all that follows; it does
+/// not see the rest.
 #[derive(Clone)]
 pub struct Call<'a> {
-    pub entry: Entry<'a>,
-    /// What the lent buffers hold before the call.
+    pub entry: Entry,
+    pub bytes: &'a [u8],
+    pub held: &'a Held,
+    pub input: &'a [u32],
+    pub budget: usize,
+    pub fault: Option<usize>,
+    /// What the lent buffers hold before the call, in the order of the arguments.
     pub lent: Vec<Vec<u32>>,
 }
 
 /// What came of a call: every number of the answer, and what the lent buffers hold after it.
-#[derive(Clone, Debug, PartialEq, Eq)]
+#[derive(Clone, PartialEq, Eq)]
 pub struct Answered {
     pub numbers: Vec<usize>,
     pub lent: Vec<Vec<u32>>,
@@ -57,77 +61,64 @@ impl Answered {
     }
 }
 
-impl Entry<'_> {
-    pub fn name(&self) -> &'static str {
+impl Entry {
+    pub fn name(self) -> &'static str {
         match self {
-            Entry::Read { .. } => "read",
-            Entry::CheckRunnable(_) => "check_runnable",
-            Entry::CheckSource(_) => "check_source",
-            Entry::Harden(_) => "harden",
-            Entry::Run { .. } => "run",
-            Entry::Campaign { .. } => "campaign",
+            Entry::Read => "read",
+            Entry::CheckRunnable => "check_runnable",
+            Entry::CheckSource => "check_source",
+            Entry::Harden => "harden",
+            Entry::Run => "run",
+            Entry::Campaign => "campaign",
         }
     }
 
     /// How many numbers the answer has.
-    pub fn numbers(&self) -> usize {
+    pub fn numbers(self) -> usize {
         match self {
-            Entry::CheckRunnable(_) | Entry::CheckSource(_) => CHECK_NUMBERS,
-            Entry::Read { .. } | Entry::Harden(_) => GRAPH_NUMBERS,
-            Entry::Run { .. } => RUN_NUMBERS,
-            Entry::Campaign { .. } => SCORE_NUMBERS,
-        }
-    }
-
-    fn graph(&self) -> Option<&Held> {
-        match self {
-            Entry::Read { .. } => None,
-            Entry::CheckRunnable(held) | Entry::CheckSource(held) | Entry::Harden(held) => {
-                Some(held)
-            }
-            Entry::Run { graph, .. } | Entry::Campaign { graph, .. } => Some(graph),
+            Entry::CheckRunnable | Entry::CheckSource => CHECK_NUMBERS,
+            Entry::Read | Entry::Harden => GRAPH_NUMBERS,
+            Entry::Run => RUN_NUMBERS,
+            Entry::Campaign => SCORE_NUMBERS,
         }
     }
 }
 
 impl fmt::Display for Call<'_> {
     fn fmt(&self, f: &mut fmt::Formatter) -> fmt::Result {
-        write!(f, "{}", self.entry.name())?;
-        if let Some(Held { header, table }) = self.entry.graph() {
-            let (r, n, entry) = (header.registers, header.nodes, header.entry);
-            write!(f, " R {r}, N {n}, entry {entry}\n  table {}", words(table))?;
-        }
-        match &self.entry {
-            Entry::Read { bytes } => write!(f, "\n  bytes {}", words(bytes))?,
-            Entry::Run {
-                input,
-                budget,
-                fault,
-                ..
-            } => {
-                let input = words(input);
-                write!(f, "\n  input {input}\n  budget {budget}, fault {fault:?}")?;
+        let Header {
+            registers,
+            nodes,
+            entry,
+        } = self.held.header;
+        match self.entry {
+            Entry::Read => write!(f, "read\n  bytes {}", words(self.bytes))?,
+            other => {
+                let (name, table) = (other.name(), words(&self.held.table));
+                write!(
+                    f,
+                    "{name} R {registers}, N {nodes}, entry {entry}\n  table {table}"
+                )?;
             }
-            Entry::Campaign { input, budget, .. } => {
-                write!(f, "\n  input {}\n  budget {budget}", words(input))?;
-            }
-            _ => {}
         }
-        for lent in &self.lent {
-            write!(f, "\n  lent {}", words(lent))?;
+        if matches!(self.entry, Entry::Run | Entry::Campaign) {
+            let (input, budget, fault) = (words(self.input), self.budget, self.fault);
+            write!(f, "\n  input {input}\n  budget {budget}, fault {fault:?}")?;
         }
-        Ok(())
+        show_lent(&self.lent, f)
     }
 }
 
 impl fmt::Display for Answered {
     fn fmt(&self, f: &mut fmt::Formatter) -> fmt::Result {
         write!(f, "{:?}", self.numbers)?;
-        for lent in &self.lent {
-            write!(f, "\n  lent {}", words(lent))?;
-        }
-        Ok(())
+        show_lent(&self.lent, f)
     }
+}
+
+fn show_lent(lent: &[Vec<u32>], f: &mut fmt::Formatter) -> fmt::Result {
+    lent.iter()
+        .try_for_each(|lent| write!(f, "\n  lent {}", words(lent)))
 }
 
 /// Longer lists are shown by their beginning; the case makes them whole again.

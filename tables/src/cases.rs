@@ -52,9 +52,9 @@ pub fn material(dice: &mut Dice) -> Material {
 /// A program in which some branches lead to a catch, at once or by way of an event.
 fn late(dice: &mut Dice) -> Draft {
     let mut draft = structured(dice, 9, 20);
-    let catch = draft.rows.len() as u32;
+    let (catch, share) = (draft.rows.len() as u32, dice.pick(&[8, 16, 30]));
     for row in &mut draft.rows {
-        if is_branch(row) && dice.percent(40) {
+        if is_branch(row) && dice.percent(share) {
             row[5] = catch + dice.below(2);
         }
     }
@@ -116,7 +116,7 @@ const RUN_STEPS: u32 = 2_000;
 const CAMPAIGN_STEPS: usize = 60_000;
 
 /// Chooses the calls for a case's material.
-pub struct Writer<'a> {
+struct Writer<'a> {
     dice: &'a mut Dice,
     material: &'a Material,
     calls: Vec<Call<'a>>,
@@ -146,17 +146,29 @@ pub fn calls<'a>(dice: &'a mut Dice, material: &'a Material) -> Vec<Call<'a>> {
 }
 
 impl<'a> Writer<'a> {
-    fn call(&mut self, entry: Entry<'a>, lengths: &[usize]) {
+    /// A call with nothing lent, and no budget.
+    fn call(&self, entry: Entry, held: &'a Held) -> Call<'a> {
+        Call {
+            entry,
+            bytes: &self.material.file,
+            held,
+            input: &self.material.input,
+            budget: 0,
+            fault: None,
+            lent: Vec::new(),
+        }
+    }
+
+    /// Takes up a call that lends buffers of these lengths.
+    fn add(&mut self, mut call: Call<'a>, lengths: &[usize]) {
         let lent = lengths.iter().map(|&length| junk(self.dice, length));
-        let lent = lent.collect();
-        self.calls.push(Call { entry, lent });
+        call.lent = lent.collect();
+        self.calls.push(call);
     }
 
     fn read(&mut self) {
-        let needed = self.material.nodes * NODE_WORDS;
-        let length = self.length(needed);
-        let bytes = &self.material.file;
-        self.call(Entry::Read { bytes }, &[length]);
+        let length = self.length(self.material.nodes * NODE_WORDS);
+        self.add(self.call(Entry::Read, &self.material.plain), &[length]);
     }
 
     /// A buffer's length around what is needed.
@@ -178,15 +190,15 @@ impl<'a> Writer<'a> {
     }
 
     fn check(&mut self, held: &'a Held) {
-        self.call(Entry::CheckRunnable(held), &[]);
-        self.call(Entry::CheckSource(held), &[]);
+        self.add(self.call(Entry::CheckRunnable, held), &[]);
+        self.add(self.call(Entry::CheckSource, held), &[]);
     }
 
     fn harden(&mut self, held: &'a Held) {
         let needed = words_needed(held);
         for _ in 0..if needed.is_some() { 2 } else { 1 } {
             let length = self.length(needed.unwrap_or(24));
-            self.call(Entry::Harden(held), &[length]);
+            self.add(self.call(Entry::Harden, held), &[length]);
         }
     }
 
@@ -224,26 +236,19 @@ impl<'a> Writer<'a> {
         })
     }
 
-    fn run(&mut self, graph: &'a Held, facts: &Facts) {
-        let (budget, fault) = (self.budget(facts), self.fault(facts));
+    fn run(&mut self, held: &'a Held, facts: &Facts) {
+        let mut call = self.call(Entry::Run, held);
+        (call.budget, call.fault) = (self.budget(facts), self.fault(facts));
         let room = self.room(facts);
-        let input = &self.material.input;
-        let entry = Entry::Run {
-            graph,
-            input,
-            budget,
-            fault,
-        };
-        self.call(entry, &[room]);
+        self.add(call, &[room]);
     }
 
-    fn campaign(&mut self, graph: &'a Held, facts: &Facts) {
+    fn campaign(&mut self, held: &'a Held, facts: &Facts) {
+        let mut call = self.call(Entry::Campaign, held);
         let budget = self.budget(facts);
-        let most = CAMPAIGN_STEPS / facts.branches.max(1);
-        let budget = if budget > LAST_BUDGET as usize {
-            budget
-        } else {
-            budget.min(most)
+        call.budget = match CAMPAIGN_STEPS / facts.branches.max(1) {
+            most if budget <= LAST_BUDGET as usize => budget.min(most),
+            _ => budget,
         };
         let first = self.room(facts);
         let second = match self.dice.below(12) {
@@ -252,13 +257,7 @@ impl<'a> Writer<'a> {
             2 => self.room(facts),
             _ => first,
         };
-        let input = &self.material.input;
-        let entry = Entry::Campaign {
-            graph,
-            input,
-            budget,
-        };
-        self.call(entry, &[first, second]);
+        self.add(call, &[first, second]);
     }
 
     fn budget(&mut self, facts: &Facts) -> usize {

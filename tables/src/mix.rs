@@ -1,13 +1,13 @@
 //! What a comparison was made of: how often each entry point answered what, and what has to occur.
 
-use crate::call::{Answered, Call, Entry, Held};
+use crate::call::{Answered, Call, Entry, Held, ENTRIES};
 use crate::sides;
 use second::graph::NODE_WORDS;
 use std::collections::BTreeMap;
 
 /// Counts by entry point and by what it answered.
 #[derive(Default)]
-pub struct Mix(BTreeMap<(&'static str, What), u64>);
+pub struct Mix(BTreeMap<(Entry, What), u64>);
 
 /// The number of a refusal, or 0, and the words for what occurred.
 type What = (usize, String);
@@ -25,9 +25,9 @@ const TABLE_EDGES: [&str; 7] = [
 
 /// What each entry point has to answer at least once: the numbers of its refusals, and words that
 /// `answers` and `edges` give.
-const FLOORS: [(&str, &[usize], &[&str]); 6] = [
+const FLOORS: [(Entry, &[usize], &[&str]); 6] = [
     (
-        "read",
+        Entry::Read,
         &[1, 2, 3, 4, 5, 6, 7, 10],
         &[
             "accepted",
@@ -36,10 +36,10 @@ const FLOORS: [(&str, &[usize], &[&str]); 6] = [
             "one word short",
         ],
     ),
-    ("check_runnable", &[3, 4, 5, 6, 7, 8], &TABLE_EDGES),
-    ("check_source", &[3, 4, 5, 6, 7, 8, 9], &TABLE_EDGES),
+    (Entry::CheckRunnable, &[3, 4, 5, 6, 7, 8], &TABLE_EDGES),
+    (Entry::CheckSource, &[3, 4, 5, 6, 7, 8, 9], &TABLE_EDGES),
     (
-        "harden",
+        Entry::Harden,
         &[3, 4, 5, 6, 7, 8, 9, 11],
         &[
             "accepted",
@@ -49,7 +49,7 @@ const FLOORS: [(&str, &[usize], &[&str]); 6] = [
         ],
     ),
     (
-        "run",
+        Entry::Run,
         &[3, 4, 5, 6, 7, 8, 12],
         &[
             "returned",
@@ -58,11 +58,10 @@ const FLOORS: [(&str, &[usize], &[&str]); 6] = [
             "full",
             "inverted",
             "place not reached",
-            "odd room",
         ],
     ),
     (
-        "campaign",
+        Entry::Campaign,
         &[3, 4, 5, 6, 7, 8, 12, 13, 14],
         &[
             "scored",
@@ -86,7 +85,7 @@ impl Mix {
             .into_iter()
             .chain(edges(call, answered))
         {
-            *self.0.entry((call.entry.name(), what)).or_default() += 1;
+            *self.0.entry((call.entry, what)).or_default() += 1;
         }
     }
 
@@ -97,7 +96,7 @@ impl Mix {
             let refusals = refusals.iter().map(|number| refused(*number));
             for what in refusals.chain(words.iter().map(|words| said(words))) {
                 if !self.0.contains_key(&(entry, what.clone())) {
-                    missing.push(format!("{entry}: {}", what.1));
+                    missing.push(format!("{}: {}", entry.name(), what.1));
                 }
             }
         }
@@ -105,14 +104,14 @@ impl Mix {
     }
 
     pub fn print(&self) {
-        for (entry, ..) in FLOORS {
+        for entry in ENTRIES {
             let counts: Vec<String> = self
                 .0
                 .iter()
                 .filter(|((name, _), _)| *name == entry)
                 .map(|((_, what), count)| format!("{} {count}", what.1))
                 .collect();
-            println!("  {entry}: {}", counts.join(", "));
+            println!("  {}: {}", entry.name(), counts.join(", "));
         }
     }
 }
@@ -132,8 +131,8 @@ fn answers(call: &Call, answered: &Answered) -> Vec<What> {
     }
     let numbers = &answered.numbers;
     match call.entry {
-        Entry::Run { .. } => vec![said(OUTCOMES[numbers[2]])],
-        Entry::Campaign { .. } => {
+        Entry::Run => vec![said(OUTCOMES[numbers[2]])],
+        Entry::Campaign => {
             let counts = CLASSES.iter().zip(&numbers[3..]);
             let some = counts.filter(|(_, &count)| count > 0);
             let some = some.map(|(class, _)| said(&format!("some {class}")));
@@ -145,30 +144,19 @@ fn answers(call: &Call, answered: &Answered) -> Vec<What> {
 
 /// Where the call stood at an edge.
 fn edges(call: &Call, answered: &Answered) -> Vec<What> {
-    let accepted = answered.refusal() == 0;
-    let what = match &call.entry {
-        Entry::Read { .. } => room(answered, 4, call.lent[0].len()),
-        Entry::Harden(_) => room(answered, 11, call.lent[0].len()),
-        Entry::CheckRunnable(held) | Entry::CheckSource(held) => table(answered, held),
-        Entry::Run { fault, .. } if accepted => {
-            let reached = fault.map(|place| place < answered.numbers[6]);
-            return [
-                reached.map(|yes| if yes { "inverted" } else { "place not reached" }),
-                (call.lent[0].len() % 2 == 1).then_some("odd room"),
-            ]
-            .into_iter()
-            .flatten()
-            .map(said)
-            .collect();
-        }
-        Entry::Campaign { .. } => campaign(call, answered),
-        Entry::Run { .. } => None,
+    let edge = match call.entry {
+        Entry::Read => room(call, answered, 4),
+        Entry::Harden => room(call, answered, 11),
+        Entry::CheckRunnable | Entry::CheckSource => table(answered, call.held),
+        Entry::Run => run(call, answered),
+        Entry::Campaign => campaign(call, answered),
     };
-    what.map(said).into_iter().collect()
+    edge.map(said).into_iter().collect()
 }
 
 /// A lent table against the words that its graph takes.
-fn room(answered: &Answered, short: usize, words: usize) -> Option<&'static str> {
+fn room(call: &Call, answered: &Answered, short: usize) -> Option<&'static str> {
+    let words = call.lent[0].len();
     let needed = answered.numbers[3] * NODE_WORDS;
     match answered.refusal() {
         0 if words == needed => Some("no word to spare"),
@@ -192,6 +180,15 @@ fn table(answered: &Answered, held: &Held) -> Option<&'static str> {
     }
 }
 
+/// A fault against the branches that the run executed.
+fn run(call: &Call, answered: &Answered) -> Option<&'static str> {
+    match call.fault {
+        Some(place) if place < answered.numbers[6] => Some("inverted"),
+        Some(_) if answered.refusal() == 0 => Some("place not reached"),
+        _ => None,
+    }
+}
+
 fn campaign(call: &Call, answered: &Answered) -> Option<&'static str> {
     let (first, second) = (call.lent[0].len(), call.lent[1].len());
     match answered.refusal() {
@@ -203,20 +200,8 @@ fn campaign(call: &Call, answered: &Answered) -> Option<&'static str> {
 
 /// Whether the undisturbed run of a campaign makes an event.
 fn made_events(call: &Call) -> bool {
-    let Entry::Campaign {
-        graph,
-        input,
-        budget,
-    } = call.entry
-    else {
-        return false;
-    };
-    let entry = Entry::Run {
-        graph,
-        input,
-        budget,
-        fault: None,
-    };
-    let lent = vec![call.lent[0].clone()];
-    sides::second(&Call { entry, lent }).numbers[8] > 0
+    let mut call = call.clone();
+    call.entry = Entry::Run;
+    call.lent.truncate(1);
+    sides::second(&call).numbers[8] > 0
 }

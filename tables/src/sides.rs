@@ -3,6 +3,7 @@
 use crate::call::{Answered, Call, Entry, Held};
 use crate::lent::Lent;
 use linked::Header;
+use second::campaign::Score;
 use second::graph::Graph;
 use second::refusal::Refusal;
 use second::run::{Answer, Outcome};
@@ -17,7 +18,7 @@ pub fn proved(call: &Call) -> Result<Answered, String> {
     };
     for part in 0..call.entry.numbers() {
         let lent = buffers.iter_mut().map(Lent::anew).collect();
-        answered.numbers.push(proved_part(&call.entry, lent, part));
+        answered.numbers.push(proved_part(call, lent, part));
         if !buffers.iter().all(Lent::kept) {
             return Err(format!(
                 "number {part}: a word beside a lent buffer changed"
@@ -35,35 +36,18 @@ pub fn proved(call: &Call) -> Result<Answered, String> {
     Ok(answered)
 }
 
-fn proved_part(entry: &Entry, mut lent: Vec<&mut [u32]>, part: usize) -> usize {
-    match (entry, &mut lent[..]) {
-        (Entry::Read { bytes }, [table]) => linked::read(bytes, table, part),
-        (Entry::CheckRunnable(Held { header, table }), []) => {
-            linked::check_runnable(header, table, part)
+fn proved_part(call: &Call, mut lent: Vec<&mut [u32]>, part: usize) -> usize {
+    let Held { header, table } = call.held;
+    let (input, budget, fault) = (call.input, call.budget, call.fault);
+    match (call.entry, &mut lent[..]) {
+        (Entry::Read, [table]) => linked::read(call.bytes, table, part),
+        (Entry::CheckRunnable, []) => linked::check_runnable(header, table, part),
+        (Entry::CheckSource, []) => linked::check_source(header, table, part),
+        (Entry::Harden, [output]) => linked::harden(header, table, output, part),
+        (Entry::Run, [events]) => linked::run(header, table, input, events, budget, fault, part),
+        (Entry::Campaign, [first, second]) => {
+            linked::campaign(header, table, input, first, second, budget, part)
         }
-        (Entry::CheckSource(Held { header, table }), []) => {
-            linked::check_source(header, table, part)
-        }
-        (Entry::Harden(Held { header, table }), [output]) => {
-            linked::harden(header, table, output, part)
-        }
-        (
-            Entry::Run {
-                graph: Held { header, table },
-                input,
-                budget,
-                fault,
-            },
-            [events],
-        ) => linked::run(header, table, input, events, *budget, *fault, part),
-        (
-            Entry::Campaign {
-                graph: Held { header, table },
-                input,
-                budget,
-            },
-            [first, second],
-        ) => linked::campaign(header, table, input, first, second, *budget, part),
         _ => unreachable!("a call lends what its entry point takes"),
     }
 }
@@ -71,58 +55,19 @@ fn proved_part(entry: &Entry, mut lent: Vec<&mut [u32]>, part: usize) -> usize {
 /// The second program's side.
 pub fn second(call: &Call) -> Answered {
     let mut lent = call.lent.clone();
-    let mut numbers = match (&call.entry, &mut lent[..]) {
-        (Entry::Read { bytes }, [table]) => graph_numbers(second::file::read(bytes, table)),
-        (Entry::CheckRunnable(held), []) => {
-            let checked = second::table::check_runnable(&graph(&held.header), &held.table);
-            numbers(checked, |()| Vec::new())
+    let (graph, table) = (&graph(&call.held.header), &call.held.table);
+    let (input, budget, fault) = (call.input, word(call.budget), call.fault.map(word));
+    let mut numbers = match (call.entry, &mut lent[..]) {
+        (Entry::Read, [table]) => graph_numbers(second::file::read(call.bytes, table)),
+        (Entry::CheckRunnable, []) => check_numbers(second::table::check_runnable(graph, table)),
+        (Entry::CheckSource, []) => check_numbers(second::table::check_source(graph, table)),
+        (Entry::Harden, [output]) => graph_numbers(second::harden::harden(graph, table, output)),
+        (Entry::Run, [events]) => {
+            run_numbers(second::run::run(graph, table, input, events, budget, fault))
         }
-        (Entry::CheckSource(held), []) => {
-            let checked = second::table::check_source(&graph(&held.header), &held.table);
-            numbers(checked, |()| Vec::new())
-        }
-        (Entry::Harden(held), [output]) => graph_numbers(second::harden::harden(
-            &graph(&held.header),
-            &held.table,
-            output,
+        (Entry::Campaign, [first, second]) => score_numbers(second::campaign::campaign(
+            graph, table, input, first, second, budget,
         )),
-        (
-            Entry::Run {
-                graph: held,
-                input,
-                budget,
-                fault,
-            },
-            [events],
-        ) => {
-            let (graph, budget) = (graph(&held.header), word(*budget));
-            let fault = fault.map(word);
-            let answer = second::run::run(&graph, &held.table, input, events, budget, fault);
-            numbers(answer, run_numbers)
-        }
-        (
-            Entry::Campaign {
-                graph: held,
-                input,
-                budget,
-            },
-            [first, second],
-        ) => {
-            let (graph, budget) = (graph(&held.header), word(*budget));
-            let table = &held.table;
-            let score = second::campaign::campaign(&graph, table, input, first, second, budget);
-            numbers(score, |s| {
-                [
-                    s.positions,
-                    s.caught,
-                    s.late,
-                    s.harmless,
-                    s.changed,
-                    s.unended,
-                ]
-                .into()
-            })
-        }
         _ => unreachable!("a call lends what its entry point takes"),
     };
     numbers.resize(call.entry.numbers(), 0);
@@ -152,26 +97,32 @@ fn numbers<T>(answer: Result<T, Refusal>, rest: impl Fn(T) -> Vec<u32>) -> Vec<u
     words.into_iter().map(|word| word as usize).collect()
 }
 
-fn graph_numbers(answer: Result<Graph, Refusal>) -> Vec<usize> {
-    numbers(answer, |g| [g.registers, g.nodes, g.entry].into())
+fn check_numbers(answer: Result<(), Refusal>) -> Vec<usize> {
+    numbers(answer, |()| Vec::new())
 }
 
-fn run_numbers(answer: Answer) -> Vec<u32> {
-    let (outcome, value) = match answer.outcome {
-        Outcome::Returned(value) => (1, value),
-        Outcome::Caught => (2, 0),
-        Outcome::Spent => (3, 0),
-        Outcome::Full => (4, 0),
-    };
-    let (node, steps, branches) = (answer.node, answer.steps, answer.branches);
-    let counts = [
-        outcome,
-        value,
-        node,
-        steps,
-        branches,
-        answer.reads,
-        answer.events,
-    ];
-    [&counts[..], &answer.registers].concat()
+fn graph_numbers(answer: Result<Graph, Refusal>) -> Vec<usize> {
+    numbers(answer, |g| vec![g.registers, g.nodes, g.entry])
+}
+
+fn score_numbers(answer: Result<Score, Refusal>) -> Vec<usize> {
+    numbers(answer, |s| {
+        let caught = [s.positions, s.caught, s.late];
+        let others = [s.harmless, s.changed, s.unended];
+        [caught, others].concat()
+    })
+}
+
+fn run_numbers(answer: Result<Answer, Refusal>) -> Vec<usize> {
+    numbers(answer, |a| {
+        let (outcome, value) = match a.outcome {
+            Outcome::Returned(value) => (1, value),
+            Outcome::Caught => (2, 0),
+            Outcome::Spent => (3, 0),
+            Outcome::Full => (4, 0),
+        };
+        let ended = [outcome, value, a.node];
+        let counts = [a.steps, a.branches, a.reads, a.events];
+        [&ended[..], &counts, &a.registers].concat()
+    })
 }
