@@ -6,7 +6,7 @@ use crate::damage;
 use crate::sides;
 use linked::Header;
 use second::dice::Dice;
-use second::graph::{is_branch, CATCH, NODE_WORDS, OUT};
+use second::graph::{BRANCH_WORD, CATCH, NODE_WORDS, OUT};
 use second::run::{run, Outcome, LAST_BUDGET};
 use second::shapes::{any_shape, structured, Draft};
 
@@ -49,17 +49,16 @@ pub fn material(dice: &mut Dice) -> Material {
     }
 }
 
-/// A program in which some branches lead to a catch, at once or by way of an event.
+/// A program behind a branch that leads, if inverted, to a catch by way of an event.
 fn late(dice: &mut Dice) -> Draft {
     let mut draft = structured(dice, 9, 20);
-    let (catch, share) = (draft.rows.len() as u32, dice.pick(&[8, 16, 30]));
-    for row in &mut draft.rows {
-        if is_branch(row) && dice.percent(share) {
-            row[5] = catch + dice.below(2);
-        }
-    }
+    let catch = draft.rows.len() as u32;
     draft.rows.push([CATCH, 0, 0, 0, 0, 0]);
     draft.rows.push([OUT, dice.below(3), 0, catch, 0, 0]);
+    draft
+        .rows
+        .push([BRANCH_WORD, 0, 0, 0, draft.entry, catch + 1]);
+    draft.entry = catch + 2;
     draft
 }
 

@@ -23,31 +23,21 @@ const TABLE_EDGES: [&str; 7] = [
     "8 at the last word",
 ];
 
+/// What a table that is written has to meet.
+const ROOM_EDGES: [&str; 4] = [
+    "accepted",
+    "no word to spare",
+    "words behind",
+    "one word short",
+];
+
 /// What each entry point has to answer at least once: the numbers of its refusals, and words that
 /// `answers` and `edges` give.
 const FLOORS: [(Entry, &[usize], &[&str]); 6] = [
-    (
-        Entry::Read,
-        &[1, 2, 3, 4, 5, 6, 7, 10],
-        &[
-            "accepted",
-            "no word to spare",
-            "words behind",
-            "one word short",
-        ],
-    ),
+    (Entry::Read, &[1, 2, 3, 4, 5, 6, 7, 10], &ROOM_EDGES),
     (Entry::CheckRunnable, &[3, 4, 5, 6, 7, 8], &TABLE_EDGES),
     (Entry::CheckSource, &[3, 4, 5, 6, 7, 8, 9], &TABLE_EDGES),
-    (
-        Entry::Harden,
-        &[3, 4, 5, 6, 7, 8, 9, 11],
-        &[
-            "accepted",
-            "no word to spare",
-            "words behind",
-            "one word short",
-        ],
-    ),
+    (Entry::Harden, &[3, 4, 5, 6, 7, 8, 9, 11], &ROOM_EDGES),
     (
         Entry::Run,
         &[3, 4, 5, 6, 7, 8, 12],
