@@ -20,7 +20,7 @@ const USAGE: &str = "expected one of:
   tables case SEED INDEX";
 
 /// Reports beyond this many are counted and not printed.
-const REPORTS: usize = 10;
+const REPORTS: u64 = 10;
 
 fn main() -> ExitCode {
     let words: Vec<String> = std::env::args().skip(1).collect();
@@ -43,7 +43,6 @@ struct Tally {
     passed: u64,
     failed: u64,
     mix: Mix,
-    reports: Vec<String>,
 }
 
 /// Every case of every seed, the seeds side by side; true when nothing differed or was missing.
@@ -56,7 +55,6 @@ fn compare(cases: u64, seeds: &[u64]) -> bool {
             let tally = worker.join().expect("a worker that ends by itself");
             println!("seed {seed}, {cases} cases, the mix of answers:");
             tally.mix.print();
-            tally.reports.iter().for_each(|report| println!("{report}"));
             passed += tally.passed;
             failed += tally.failed;
         }
@@ -70,7 +68,6 @@ fn show(seed: u64, index: u64) -> bool {
     let mut tally = Tally::default();
     let print = |call: &Call, answered: &Answered| println!("{call}\n  answer {answered}");
     tally.case(seed, index, print);
-    tally.reports.iter().for_each(|report| println!("{report}"));
     println!("{} passed, {} failed", tally.passed, tally.failed);
     tally.failed == 0
 }
@@ -91,7 +88,7 @@ impl Tally {
         let mut dice = Dice::new(seed, index);
         let material = cases::material(&mut dice);
         let before = material.clone();
-        let again = format!("again: tables case {seed} {index}");
+        let again = format!("again: tables/target/release/tables case {seed} {index}");
         for (number, call) in cases::calls(&mut dice, &material).iter().enumerate() {
             let expected = sides::second(call);
             seen(call, &expected);
@@ -110,10 +107,11 @@ impl Tally {
         }
     }
 
+    /// Told at once: a later call may not come back.
     fn fail(&mut self, report: String) {
         self.failed += 1;
-        if self.reports.len() < REPORTS {
-            self.reports.push(report);
+        if self.failed <= REPORTS {
+            println!("{report}");
         }
     }
 }
