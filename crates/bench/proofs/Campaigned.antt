@@ -21,7 +21,7 @@ use Rattle.bench.proofs.Outcome.{the-type}
 use Rattle.bench.proofs.Bounds.{within}
 use Rattle.bench.specs.Classes.{Referred, Reported}
 use Rattle.bench.proofs.Checked.{events-over}
-use Rattle.bench.proofs.Forks.{take-put-all}
+use Rattle.bench.proofs.Asides.{take-put-all}
 use Rattle.bench.specs.declared.CampaignAnswer.{CampaignAnswer}
 use Rattle.bench.specs.declared.CampaignAnswer.the-variants.{Scored, Refused}
 use Rattle.bench.specs.declared.Fault.the-variants.{Undisturbed}

@@ -1,61 +1,74 @@
--- `bench::campaigns::scored` meets its contract. Assumes nothing.
 use borrow.Author.Needs.{needs}
-use Rattle.bench.specs.Ready.{runEnd}
-use Rattle.bench.proofs.Campaigned.{scored-none, scored-some, reference-made}
 use Rattle.bench.proofs.campaigns.scored.Statement.{statement}
 use Rattle.bench.proofs.campaigns.scored.Tie as tie
+use Rattle.bench.proofs.campaigns.scored.Reads as reads
+use Rattle.bench.proofs.campaigns.scored.Lts as lts
+use Rattle.bench.proofs.campaigns.blank.Reads as blank-reads
+use Rattle.bench.proofs.campaigns.refer.Reads as refer-reads
+use Rattle.bench.proofs.runs.make.Reads as make-reads
+use Rattle.bench.proofs.runs.one.Reads as one-reads
+use Rattle.bench.proofs.scores.clear.Reads as clear-reads
 
-slice-aggregate-whole : tie.Need-slice-aggregate-whole
-slice-aggregate-whole c = search needs
+-- src/campaigns.rt:75:21
+blank-requires : tie.Need-blank-requires
+blank-requires c κs = search needs
 
-whole-requires : tie.Need-whole-requires
-whole-requires c κs = search needs
+-- src/campaigns.rt:76:42
+slice-aggregate-one : tie.Need-slice-aggregate-one
+slice-aggregate-one c = search needs
 
+-- src/campaigns.rt:76:9
+one-requires : tie.Need-one-requires
+one-requires c κs = search needs
+
+-- src/campaigns.rt:78:27
 enum-known-outcome : tie.Need-enum-known-outcome
 enum-known-outcome c = search needs
 
+-- src/campaigns.rt:79:9
 returns : tie.Need-returns
-returns c =
-    let trial = c .before .before .whole in
-    scored-none _ _ _ _ _ _ (runEnd (trial .result)) (trial .ensures .0) (c .match .keys2)
+returns c = ?
 
-whole-requires-2 : tie.Need-whole-requires-2
-whole-requires-2 c κs = search needs
+-- src/campaigns.rt:82:33
+slice-aggregate-refer : tie.Need-slice-aggregate-refer
+slice-aggregate-refer c = search needs
 
-walk-requires : tie.Need-walk-requires
-walk-requires c κs =
-    let start = c .before .before .before .before .before .before .before .before .before .before .before .before .before .before .before .before .before in
-    let made = c .before .before .before .before .before .whole2 in
-    (start .pre .0, reference-made _ _ _ (start .args .second .now) _ _ (runEnd (made .result)) _ (made .ensures) (start .pre .1))
+-- src/campaigns.rt:82:5
+refer-requires : tie.Need-refer-requires
+refer-requires c κs = ?
 
+-- src/campaigns.rt:85:9
+make-requires : tie.Need-make-requires
+make-requires c κs = ?
+
+-- src/campaigns.rt:97:5
 clear-requires : tie.Need-clear-requires
 clear-requires c κs = search needs
 
+-- src/campaigns.rt:62:1
 same-length : tie.Need-same-length
 same-length c = search needs
 
+-- src/campaigns.rt:62:1
 same-length-2 : tie.Need-same-length-2
 same-length-2 c = search needs
 
+-- src/campaigns.rt:62:1
 returns-2 : tie.Need-returns-2
-returns-2 c =
-    let start = c .before .before .before .before .before .before .before .before .before .before .before .before .before .before .before .before .before .before .before .before .before .before .before .before in
-    let trial = c .before .before .before .before .before .before .before .before .before .before .before .before .before .before .before .before .before .before .whole in
-    let made = c .before .before .before .before .before .before .before .before .before .before .before .before .whole2 in
-    let returned = c .before .before .before .before .before .before .before .before .before .before .before .before .before .before .before .outcome .given .1 in
-    let walk = c .before .before .before .before .before .before .walk in
-    scored-some _ _ _ (start .args .second .now) _ _ (runEnd (made .result)) _ (made .ensures) (runEnd (trial .result)) _ (trial .ensures .0) returned (start .pre .1) _ (walk .ensures) _ _ (walk .kept .1 .1 .1 .1 .0) (c .before .before .clear .ensures)
+returns-2 c = ?
 
 pub scored-spec : {M : Type 1} → statement M
 scored-spec =
     tie.close
     (tie.spec
-    slice-aggregate-whole
-    whole-requires
+    blank-requires
+    slice-aggregate-one
+    one-requires
     enum-known-outcome
     returns
-    whole-requires-2
-    walk-requires
+    slice-aggregate-refer
+    refer-requires
+    make-requires
     clear-requires
     same-length
     same-length-2
