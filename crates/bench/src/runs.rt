@@ -159,7 +159,14 @@ pub fn make(
         let mut outcome = Outcome::Spent;
         while state.steps < budget {
             let inverted = place == state.branches;
-            let effect = effect_at(table, inputs, &state.registers, state.node, state.reads, inverted);
+            let effect = effect_at(
+                table,
+                inputs,
+                &state.registers,
+                state.node,
+                state.reads,
+                inverted,
+            );
             let sequel = effect.sequel;
             if !has_room(sequel, words, room) {
                 outcome = Outcome::Full;

@@ -1,35 +1,22 @@
+-- `bench::campaigns::refer` meets its contract: what the trial run kept is copied, or the run made again. Assumes nothing.
 use borrow.Author.Needs.{needs}
+use Rattle.bench.proofs.Campaigned.{tried-fits, tried-copied}
 use Rattle.bench.proofs.campaigns.refer.Statement.{statement}
 use Rattle.bench.proofs.campaigns.refer.Tie as tie
-use Rattle.bench.proofs.campaigns.refer.Reads as reads
-use Rattle.bench.proofs.campaigns.refer.Lts as lts
-use Rattle.bench.proofs.campaigns.copy.Reads as copy-reads
-use Rattle.bench.proofs.runs.one.Reads as one-reads
 
--- src/campaigns.rt:54:9
 copy-requires : tie.Need-copy-requires
-copy-requires c κs = ?
+copy-requires c κs =
+    (tried-fits _ _ _ _ _ (c .before .before .before .before .before .before .pre .1), c .before .if1 .taken)
 
--- src/campaigns.rt:57:13
-one-requires : tie.Need-one-requires
-one-requires c κs = search needs
-
--- src/campaigns.rt:40:1
-same-length : tie.Need-same-length
-same-length c = search needs
-
--- src/campaigns.rt:40:1
 returns : tie.Need-returns
-returns c = ?
+returns c =
+    let begin = c .before .before .before .before .before .before .before .before .before in
+    tried-copied _ _ _ _ _ (begin .pre .1) _ _ (c .before .before .before .before .if1 .taken) (c .before .before .copy .ensures)
 
--- src/campaigns.rt:40:1
-same-length-2 : tie.Need-same-length-2
-same-length-2 c = search needs
-
--- src/campaigns.rt:40:1
 returns-2 : tie.Need-returns-2
-returns-2 c = search needs
+returns-2 c = c .before .before .one .ensures .1
 
 pub refer-spec : {M : Type 1} → statement M
 refer-spec =
-    tie.close (tie.spec copy-requires one-requires same-length returns same-length-2 returns-2)
+    tie.close
+    (tie.spec copy-requires (λ c κs. search needs) (λ c. search needs) returns (λ c. search needs) returns-2)

@@ -1,75 +1,52 @@
+-- `bench::campaigns::scored` meets its contract. Assumes nothing.
 use borrow.Author.Needs.{needs}
+use Rattle.bench.specs.Classes.{endOf}
+use Rattle.bench.proofs.Campaigned.{trial-kept, scored-none, scored-some, asks}
 use Rattle.bench.proofs.campaigns.scored.Statement.{statement}
 use Rattle.bench.proofs.campaigns.scored.Tie as tie
-use Rattle.bench.proofs.campaigns.scored.Reads as reads
-use Rattle.bench.proofs.campaigns.scored.Lts as lts
-use Rattle.bench.proofs.campaigns.blank.Reads as blank-reads
-use Rattle.bench.proofs.campaigns.refer.Reads as refer-reads
-use Rattle.bench.proofs.runs.make.Reads as make-reads
-use Rattle.bench.proofs.runs.one.Reads as one-reads
-use Rattle.bench.proofs.scores.clear.Reads as clear-reads
 
--- src/campaigns.rt:75:21
-blank-requires : tie.Need-blank-requires
-blank-requires c κs = search needs
-
--- src/campaigns.rt:76:42
-slice-aggregate-one : tie.Need-slice-aggregate-one
-slice-aggregate-one c = search needs
-
--- src/campaigns.rt:76:9
-one-requires : tie.Need-one-requires
-one-requires c κs = search needs
-
--- src/campaigns.rt:78:27
-enum-known-outcome : tie.Need-enum-known-outcome
-enum-known-outcome c = search needs
-
--- src/campaigns.rt:79:9
 returns : tie.Need-returns
-returns c = ?
+returns c = let trial = c .before .before .one in scored-none _ _ _ _ _ _ (endOf (trial .result)) (trial .ensures .0) (c .match .keys2)
 
--- src/campaigns.rt:82:33
-slice-aggregate-refer : tie.Need-slice-aggregate-refer
-slice-aggregate-refer c = search needs
-
--- src/campaigns.rt:82:5
 refer-requires : tie.Need-refer-requires
-refer-requires c κs = ?
+refer-requires c κs =
+    let ran = c .before .before .before .before .before .before in
+    let begin = ran .before .before .before .before .before .before .before in
+    let args = begin .args in
+    (begin .pre .0, trial-kept _ _ (args .first .now) (args .second .now) (args .entry) (args .budget) _ _ 8192 (ran .before .before .blank .ensures) (endOf (ran .one .result)) (ran .one .ensures))
 
--- src/campaigns.rt:85:9
 make-requires : tie.Need-make-requires
-make-requires c κs = ?
+make-requires c κs =
+    let refers = c .before .before .before .before .before in
+    let ran = refers .before .before .before .before .before .before .before in
+    let begin = ran .before .before .before .before .before .before .before in
+    let args = begin .args in
+    (begin .pre .0, asks _ _ (args .first .now) (args .second .now) (args .entry) (args .budget) (endOf (ran .one .result)) (ran .one .ensures .0) _ (refers .refer .ensures) (begin .pre .1))
 
--- src/campaigns.rt:97:5
-clear-requires : tie.Need-clear-requires
-clear-requires c κs = search needs
-
--- src/campaigns.rt:62:1
-same-length : tie.Need-same-length
-same-length c = search needs
-
--- src/campaigns.rt:62:1
-same-length-2 : tie.Need-same-length-2
-same-length-2 c = search needs
-
--- src/campaigns.rt:62:1
 returns-2 : tie.Need-returns-2
-returns-2 c = ?
+returns-2 c =
+    let cleared = c .before .before .before in
+    let made = cleared .before .before .before .before in
+    let refers = made .before .before .before .before .before .before in
+    let ran = refers .before .before .before .before .before .before .before in
+    let begin = ran .before .before .before .before .before .before .before in
+    let returned = refers .before .before .before .before .outcome .given .1 in
+    let args = begin .args in
+    scored-some _ _ (args .first .now) (args .second .now) (args .entry) (args .budget) (endOf (ran .one .result)) (ran .one .ensures .0) _ (refers .refer .ensures) (begin .pre .1) _ returned _ (made .make .ensures .score) _ _ (made .make .kept .1 .1 .1 .1 .0) (cleared .clear .ensures)
 
 pub scored-spec : {M : Type 1} → statement M
 scored-spec =
     tie.close
     (tie.spec
-    blank-requires
-    slice-aggregate-one
-    one-requires
-    enum-known-outcome
+    (λ c κs. search needs)
+    (λ c. search needs)
+    (λ c κs. search needs)
+    (λ c. search needs)
     returns
-    slice-aggregate-refer
+    (λ c. search needs)
     refer-requires
     make-requires
-    clear-requires
-    same-length
-    same-length-2
+    (λ c κs. search needs)
+    (λ c. search needs)
+    (λ c. search needs)
     returns-2)

@@ -1,69 +1,46 @@
+-- `bench::run` meets its contract. Assumes nothing.
 use borrow.Author.Needs.{needs}
+use mathlib.Core.Path.{_≡_, sym, ap, _∙_}
+use Rattle.words.specs.Answer.{given}
+use Rattle.graph.specs.Checks.{checkOf, runnableCheck}
+use Rattle.bench.specs.Classes.{endOf}
+use Rattle.bench.proofs.Checked.{ready-start, run-twelve, run-made, run-refused}
 use Rattle.bench.proofs.machine.run.Statement.{statement}
 use Rattle.bench.proofs.machine.run.Tie as tie
-use Rattle.bench.proofs.machine.run.Reads as reads
-use Rattle.bench.proofs.machine.run.Lts as lts
-use Rattle.bench.proofs.machine.place_of.Reads as place-of-reads
-use Rattle.bench.proofs.machine.refused.Reads as refused-reads
-use Rattle.bench.proofs.runs.one.Reads as one-reads
-use Rattle.graph.proofs.check_runnable.Reads as check-runnable-reads
 
--- src/machine.rt:49:11
-check-runnable-requires : tie.Need-check-runnable-requires
-check-runnable-requires c κs = search needs
+-- the graph is accepted
+accepted : (c : tie.After-enum-told)
+    → let args = c .before .before .before .before .before .before .args in runnableCheck (args .registers) (args .nodes) (args .entry) (args .table .now) ≡ given tt
+accepted c = sym (c .before .before .check-runnable .ensures) ∙ ap checkOf (c .enum-told .given .1)
 
--- src/machine.rt:51:16
-enum-told : tie.Need-enum-told
-enum-told c = search needs
-
--- src/machine.rt:52:17
-refused-requires : tie.Need-refused-requires
-refused-requires c κs = search needs
-
--- src/machine.rt:52:17
 returns : tie.Need-returns
-returns c = ?
+returns c = run-twelve _ _ _ _ _ _ _ _ (c .refused .ensures) (accepted (c .before .before)) (c .before .if1 .taken)
 
--- src/machine.rt:55:17
-place-of-requires : tie.Need-place-of-requires
-place-of-requires c κs = search needs
-
--- src/machine.rt:56:17
 one-requires : tie.Need-one-requires
-one-requires c κs = ?
+one-requires c κs = ready-start _ _ _ _ _ (accepted (c .before .before .before))
 
--- src/machine.rt:65:24
-enum-known-number : tie.Need-enum-known-number
-enum-known-number c = search needs
-
--- src/machine.rt:65:42
-refused-requires-2 : tie.Need-refused-requires-2
-refused-requires-2 c κs = search needs
-
--- src/machine.rt:36:1
-same-length : tie.Need-same-length
-same-length c = search needs
-
--- src/machine.rt:36:1
 returns-2 : tie.Need-returns-2
-returns-2 c = ?
+returns-2 c =
+    let made = c .before .before .before .before in
+    let checked = made .before .before .before in
+    run-made _ _ _ _ _ _ _ _ (endOf (made .one .result)) _ (accepted (checked .before)) (checked .if1 .left) (made .before .before .place-of .ensures) (made .one .ensures)
 
--- src/machine.rt:36:1
 returns-3 : tie.Need-returns-3
-returns-3 c = ?
+returns-3 c =
+    run-refused _ _ _ _ _ _ _ _ _ _ (c .refused2 .ensures) (sym (c .before .before .before .before .check-runnable .ensures) ∙ ap checkOf (c .before .before .number .given .1))
 
 pub run-spec : {M : Type 1} → statement M
 run-spec =
     tie.close
     (tie.spec
-    check-runnable-requires
-    enum-told
-    refused-requires
+    (λ c κs. search needs)
+    (λ c. search needs)
+    (λ c κs. search needs)
     returns
-    place-of-requires
+    (λ c κs. search needs)
     one-requires
-    enum-known-number
-    refused-requires-2
-    same-length
+    (λ c. search needs)
+    (λ c κs. search needs)
+    (λ c. search needs)
     returns-2
     returns-3)

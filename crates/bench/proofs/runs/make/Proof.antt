@@ -95,8 +95,7 @@ loop2-again c =
     let at = effect .before .before .before .before .loop2 in
     let below = effect .before .before .before .loop2-test .taken in
     let wrote = writes .write-event .ensures in
-    let goes = ap statusOf (sym (c .enum-told .given .1)) ∙ c .before .before .ends .ensures in
-    (
+    let goes = ap statusOf (sym (c .enum-told .given .1)) ∙ c .before .before .ends .ensures in (
       on _ _ _ _ _ _ _ _ _ _ (at .inv .0) below _ (effect .effect-at .ensures) (room-left (writes .before)) _ _ (wrote .0) (wrote .1) goes,
       aside-on _ _ _ _ _ _ _ _ _ _ (at .inv .0) _ _ (effect .effect-at .result) (small-at effect .counts .branches) (at .inv .1) _ (joined .before .forks .ensures) _ _ (set-aside joined),
       at .inv .2,
@@ -114,20 +113,19 @@ finished c =
     ⊎-elim
     (λ t. rw (t .1, t .2, t .3, t .4, t .5, t .6 ∙ inv .2) (spent _ _ _ _ _ _ _ _ _ _ (inv .0) (t .0 .left), inv .1))
     (λ t.
-      ⊎-elim
-      (λ t.
-        rw (t .6, t .7, t .8, t .9, t .10, t .11)
-        (full _ _ _ _ _ _ _ _ _ _ (inv .0) (t .0 .taken) _ (t .3 .ensures) (sym (t .4 .ensures) ∙ not-true _ (t .5 .taken)), inv .1))
-      (λ t.
-        let small = small-here _ _ _ _ _ _ _ _ _ _ (inv .0) (t .0 .taken) _ (t .3 .ensures) in
-        let aside = ⊎-elim (λ u. inl (u .0 .taken, u .2 ∙ u .1 .ensures, u .3)) (λ u. inr (u .0 .left, u .1, u .2)) (t .7 .came) in
-        rw (t .19, t .20, t .21, t .22, t .23, t .24)
-        (
-          ends _ _ _ _ _ _ _ _ _ _ (inv .0) (t .0 .taken) _ (t .3 .ensures) (sym (t .4 .ensures) ∙ not-false _ (t .5 .left)) _ _ (t .9 .ensures .0) (t .9 .ensures .1) _
+    ⊎-elim
+    (λ t.
+    rw (t .6, t .7, t .8, t .9, t .10, t .11)
+    (full _ _ _ _ _ _ _ _ _ _ (inv .0) (t .0 .taken) _ (t .3 .ensures) (sym (t .4 .ensures) ∙ not-true _ (t .5 .taken)), inv .1))
+    (λ t.
+    let small = small-here _ _ _ _ _ _ _ _ _ _ (inv .0) (t .0 .taken) _ (t .3 .ensures) in
+    let aside = ⊎-elim (λ u. inl (u .0 .taken, u .2 ∙ u .1 .ensures, u .3)) (λ u. inr (u .0 .left, u .1, u .2)) (t .7 .came) in
+    rw (t .19, t .20, t .21, t .22, t .23, t .24) (
+      ends _ _ _ _ _ _ _ _ _ _ (inv .0) (t .0 .taken) _ (t .3 .ensures) (sym (t .4 .ensures) ∙ not-false _ (t .5 .left)) _ _ (t .9 .ensures .0) (t .9 .ensures .1) _
           (ap statusOf (sym (t .17 .given .1)) ∙ t .15 .ensures),
-          aside-on _ _ _ _ _ _ _ _ _ _ (inv .0) _ _ (t .3 .result) (small .counts .branches) (inv .1) _ (t .6 .ensures) _ _ aside,
-        ))
-      t)
+      aside-on _ _ _ _ _ _ _ _ _ _ (inv .0) _ _ (t .3 .result) (small .counts .branches) (inv .1) _ (t .6 .ensures) _ _ aside,
+    ))
+    t)
     (c .loop2-test .came)
 
 size : (c : tie.Left-loop2 Inv-loop2 μ-loop2 Inv-loop μ-loop)
@@ -163,8 +161,7 @@ loop-again c =
     let turn = c .before .before .before in
     let f = forked-at turn in
     let args = turn .before .before .before .before .before .before .before .before .before .before .args in
-    rw (c .copied2 .ensures)
-    (
+    rw (c .copied2 .ensures) (
       f .again,
       omega (arith, f .branches),
       size (turn .before),

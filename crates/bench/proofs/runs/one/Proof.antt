@@ -1,25 +1,15 @@
+-- `bench::runs::one` meets its contract. Assumes nothing.
 use borrow.Author.Needs.{needs}
+use mathlib.Core.Path.{refl}
+use native.Mathlib.Omega.{arith}
 use Rattle.bench.proofs.runs.one.Statement.{statement}
 use Rattle.bench.proofs.runs.one.Tie as tie
-use Rattle.bench.proofs.runs.one.Reads as reads
-use Rattle.bench.proofs.runs.one.Lts as lts
-use Rattle.bench.proofs.runs.make.Reads as make-reads
 
--- src/runs.rt:217:9
-slice-aggregate-make : tie.Need-slice-aggregate-make
-slice-aggregate-make c = search needs
-
--- src/runs.rt:214:5
 make-requires : tie.Need-make-requires
-make-requires c κs = ?
+make-requires c κs = (c .before .before .before .before .before .pre, λ some. absurd (omega arith))
 
--- src/runs.rt:200:1
-same-length : tie.Need-same-length
-same-length c = search needs
-
--- src/runs.rt:200:1
 returns : tie.Need-returns
-returns c = ?
+returns c = c .before .before .make .ensures .run refl
 
 pub one-spec : {M : Type 1} → statement M
-one-spec = tie.close (tie.spec slice-aggregate-make make-requires same-length returns)
+one-spec = tie.close (tie.spec (λ c. search needs) make-requires (λ c. search needs) returns)
