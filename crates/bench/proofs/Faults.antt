@@ -32,15 +32,15 @@ module _ (s : Setting) (place : ℕ) where
   same-next f m (ended outcome) h = refl
 
   -- the run with the fault and the one without it are one as long as either has not counted the branch at the place
-  abbrev pub Either : Fault → Type 0
+  abbrev Either : Fault → Type 0
   Either f = (f ≡ Undisturbed) ⊎ (f ≡ Inverted place)
 
-  pub unreached-after : (f : Fault) → Either f → (p : Progress) (rounds : ℕ) → after s f p rounds .machine .branches ≤ place → after s (Inverted place) p rounds ≡ after s Undisturbed p rounds
+  alike-after : (f : Fault) → Either f → (p : Progress) (rounds : ℕ) → after s f p rounds .machine .branches ≤ place → after s (Inverted place) p rounds ≡ after s Undisturbed p rounds
   unfolding after next
-  unreached-after f either p zero h = refl
-  unreached-after f either p (suc rounds) h =
+  alike-after f either p zero h = refl
+  alike-after f either p (suc rounds) h =
       let g = grown-next s f (after s f p rounds) in
-      let so-far = unreached-after f either p rounds (omega arith) in
+      let so-far = alike-after f either p rounds (omega arith) in
       let q = after s Undisturbed p rounds in
       ap (next s (Inverted place)) so-far ∙ same-next f (q .machine) (q .status) (rw (same either so-far) at h)
     where
@@ -49,14 +49,18 @@ module _ (s : Setting) (place : ℕ) where
       same (inr e) so-far = rw e so-far
 
   -- a place never reached changes nothing
+  pub unreached-after : (p : Progress) (rounds : ℕ) → after s Undisturbed p rounds .machine .branches ≤ place
+      → after s (Inverted place) p rounds ≡ after s Undisturbed p rounds
+  unreached-after p rounds h = alike-after Undisturbed (inl refl) p rounds h
+
   pub unreached : (entry budget : ℕ) → runOf s Undisturbed entry budget .machine .branches ≤ place → runOf s (Inverted place) entry budget ≡ runOf s Undisturbed entry budget
   unfolding runOf
-  unreached entry budget h = unreached-after Undisturbed (inl refl) (at (start entry) going) budget h
+  unreached entry budget h = unreached-after (at (start entry) going) budget h
 
   -- seen from the other side
   pub not-reached : (entry budget : ℕ) → runOf s (Inverted place) entry budget .machine .branches ≤ place → runOf s (Inverted place) entry budget ≡ runOf s Undisturbed entry budget
   unfolding runOf
-  not-reached entry budget h = unreached-after (Inverted place) (inr refl) (at (start entry) going) budget h
+  not-reached entry budget h = alike-after (Inverted place) (inr refl) (at (start entry) going) budget h
 
 -- a fault's place says all of it: no run reaches the place after as many branches as its budget has steps
 pub as-placed : (s : Setting) (fault : Fault) (entry budget : ℕ) → runOf s (Inverted (placeOf fault budget)) entry budget ≡ runOf s fault entry budget
