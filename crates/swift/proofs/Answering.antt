@@ -1,13 +1,13 @@
 -- From rounds to answers: what `run` answers of the two graphs of a subject is the run after as many rounds as its budget, up to the
 -- largest budget; so each clause of demand 3 passes from the runs to the answers.
 -- Assumes nothing.
-use mathlib.Core.Path.{_≡_, refl, sym, ap, _∙_}
+use mathlib.Core.Path.{_≡_, refl, sym, ap, _∙_, subst}
 use mathlib.Core.Logic.{inl, inr}
 use mathlib.Core.Bool.{Bool, true, false, cond}
 use mathlib.Core.Option.{none, some}
 use mathlib.Core.List.{List, _++_}
 use Prim.Native.Nat.{ℕ, zero, suc, _+_, _/_, _≤_, _<_}
-use native.Mathlib.Nat.{add-zero, zero-add}
+use native.Mathlib.Nat.{add-zero, zero-add, not-suc-le-zero}
 use native.Mathlib.Decide.{decLt}
 use native.Mathlib.Omega.{arith}
 use lib.ListN.{length}
@@ -29,6 +29,7 @@ use Rattle.bench.specs.declared.Fault.{Fault}
 use Rattle.bench.specs.declared.Fault.the-variants.{Undisturbed, Inverted}
 use Rattle.bench.specs.declared.Outcome.{Outcome}
 use Rattle.bench.specs.declared.Outcome.the-variants.{Returned, Caught, Spent, Full}
+use Rattle.bench.specs.declared.RunAnswer.{RunAnswer}
 use Rattle.bench.specs.declared.State.{State}
 use Rattle.bench.specs.declared.Verdict.the-variants.{Ran}
 use Rattle.bench.proofs.Rounds.{after-more}
@@ -97,37 +98,33 @@ same-shown : (j : Subject) (p q : Progress) → p .machine .reads ≡ q .machine
 same-shown j p q reads events =
     record { same-reads = reads; same-count = ap (λ l. length l / 2) events; same-events = ap (λ l. over l (j .events)) events }
 
-module _ (j : Subject) (h : Header) (words : List ℕ) (runs : runnableCheck (h .registers) (h .nodes) (h .entry) words ≡ given tt) (fault : Fault) (budget : ℕ) where
+module _ (j : Subject) (h : Header) (words : List ℕ) (in-order : runnableCheck (h .registers) (h .nodes) (h .entry) words ≡ given tt)
+    (fault : Fault) (budget : ℕ) where
   abbrev setting : Setting
   setting = record { graph = nodeAt words; inputs = j .inputs; room = length (j .events) }
 
   answer-within : budget ≤ mostSteps → runOn j h words fault budget ≡ shown j (runOf setting fault (h .entry) budget)
   unfolding runOn runEvents runAnswer
-  answer-within few = rw (runs, le-leb budget mostSteps few)
+  answer-within few = rw (in-order, le-leb budget mostSteps few)
 
   answer-past : mostSteps < budget → runOn j h words fault budget .answer ≡ answerOf (refused 12 0)
   unfolding runOn runAnswer
-  answer-past many = rw (runs, lt-leb budget mostSteps many)
+  answer-past many = rw (in-order, lt-leb budget mostSteps many)
 
-  -- a budget with which there is a run to speak of is none too large
-  few-ran : (o : Outcome) → runOn j h words fault budget .answer .verdict ≡ Ran o → budget ≤ mostSteps
-  few-ran o e = by (decLt mostSteps budget)
+  -- a budget whose answer is not that refusal is none too large
+  not-past : (P : RunAnswer → Type 0) → (P (answerOf (refused 12 0)) → ⊥) → P (runOn j h words fault budget .answer) → budget ≤ mostSteps
+  not-past P never p = by (decLt mostSteps budget)
     where
       by : Dec (mostSteps < budget) → budget ≤ mostSteps
-      by (yes many) =
-          let z : _≡_ {A = ℕ} 0 1 = cc (ap (λ a. a .verdict) (answer-past many)) in
-          absurd (omega arith)
+      by (yes many) = absurd (never (subst P (answer-past many) p))
       by (no few) = omega arith
+
+  few-ran : (o : Outcome) → runOn j h words fault budget .answer .verdict ≡ Ran o → budget ≤ mostSteps
+  few-ran o = not-past (λ a. a .verdict ≡ Ran o) (λ e. let z : _≡_ {A = ℕ} 0 1 = cc in omega arith)
 
   few-branches : (place : ℕ) → place < runOn j h words fault budget .answer .state .branches → budget ≤ mostSteps
   unfolding start
-  few-branches place e = by (decLt mostSteps budget)
-    where
-      by : Dec (mostSteps < budget) → budget ≤ mostSteps
-      by (yes many) =
-          let none : runOn j h words fault budget .answer .state .branches ≡ 0 = ap (λ a. a .state .branches) (answer-past many) in
-          absurd (omega arith)
-      by (no few) = omega arith
+  few-branches place = not-past (λ a. place < a .state .branches) not-suc-le-zero
 
 -- the same states give the same crossings
 same-crossings : (source : Source) (f g : ℕ → State) (s : ℕ) → ((k : ℕ) → k ≤ s → f k ≡ g k) → crossings source f s ≡ crossings source g s

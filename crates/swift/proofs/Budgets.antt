@@ -1,5 +1,5 @@
--- Demand 3 in terms of budgets: a hardened run whose budget lies above the steps named ends as the source has ended; each branch
--- that it executes has a round; and with five steps left after that round the run with the branch inverted ends caught.
+-- The hardened run by its budget: what has ended stays as it is; each branch that the run executes has a round; and from the steps
+-- named on the run ends as the source has ended.
 -- Assumes nothing.
 use mathlib.Core.Path.{_≡_, refl, sym, ap, _∙_}
 use mathlib.Core.Bool.{Bool, true, false}

@@ -21,7 +21,7 @@ use Rattle.bench.specs.Campaigns.{classAt, scoreBelow, scoreOf, campaignAnswer,
 use Rattle.bench.specs.declared.Fault.the-variants.{Undisturbed, Inverted}
 use Rattle.bench.specs.declared.Score.{Score}
 use Rattle.bench.proofs.Faults.{unreached}
-use Rattle.swift.specs.Demand.{byHarden, Demand3}
+use Rattle.swift.specs.Demand.{byHarden, sourceIn, hardenedHeader, Demand3}
 use Rattle.swift.specs.Trials.{Trial, hardened, hardenedGraph, hardenedRun, Returns, TestAt, Covered}
 use Rattle.swift.proofs.Roles.{Accepted}
 use Rattle.swift.proofs.Answering.{accepted-source, kept}
@@ -61,8 +61,10 @@ pub demand-3 : (h : Header) (table out inputs events : List ℕ) → sourceCheck
     → Demand3 (byHarden h table out inputs events)
 unfolding sourceOf
 demand-3 h table out inputs events accepted fits =
-    kept (byHarden h table out inputs events) (behind h table out) one-plus-distinct accepted
-    (leaves h table out accepted fits) (answers h table out accepted fits)
+    let j = byHarden h table out inputs events in
+    let output : j .output ≡ hardenedTable (sourceIn j) ++ behind h table out = cc (leaves h table out accepted fits) in
+    let answer : j .answer ≡ given (hardenedHeader j) = cc (answers h table out accepted fits) in
+    kept j (behind h table out) one-plus-distinct accepted output answer
 
 -- ---- the score
 
@@ -88,7 +90,8 @@ module _ (h : Header) (table out inputs : List ℕ) (room : ℕ) where
         ≡ given score
     unfolding campaignAnswer hardenedRun hardenedGraph sourceOf
     promised-score =
-        rw (leaves h table out accepted fits, hardened-runnable (source h table) (ok .in-order) (behind h table out), le-leb budget mostSteps few, eq-eqb room room refl)
+        let in-order = hardened-runnable (source h table) (ok .in-order) (behind h table out) in
+        rw (leaves h table out accepted fits, in-order, le-leb budget mostSteps few, eq-eqb room room refl)
         (ap (λ status. scoreOf (hardened trial) (h .nodes) budget (hardenedRun trial Undisturbed budget .machine) (settled status)) (returns .returned))
 
     pub promised-covered : Covered branches score

@@ -32,6 +32,11 @@ pub record Stepped (m : Machine) (p : Progress) : Type 0 where
   pub reads-more : m .reads ≤ p .machine .reads
   pub branches-one : p .machine .branches ≤ m .branches + 1
 
+-- an end that is no step
+stayed : (m : Machine) (o : Outcome) → Stepped m (at m (ended o))
+stayed m o =
+    record { one-step = λ on. cc; steps-more = omega arith; steps-one = omega arith; reads-more = omega arith; branches-one = omega arith }
+
 module _ (inputs : List ℕ) (fault : Fault) (m : Machine) where
   executed : (node : Node) → Stepped m (execute inputs fault node m)
   executed (go (const d k) next) = omega arith
@@ -44,7 +49,7 @@ module _ (inputs : List ℕ) (fault : Fault) (m : Machine) where
 
   kept : (stop : Option Outcome) (p : Progress) → Stepped m p → Stepped m (unless stop m p)
   kept none p c = c
-  kept (some o) p c = record { one-step = λ on. cc; steps-more = omega arith; steps-one = omega arith; reads-more = omega arith; branches-one = omega arith }
+  kept (some o) p c = stayed m o
 
 -- a list that is no longer than its beginning is its beginning
 no-more : (xs a b : List ℕ) → xs ++ a ++ b ≡ xs → xs ++ a ≡ xs
@@ -70,7 +75,7 @@ module _ (s : Setting) (fault : Fault) where
   stepped-of m going =
       let node = s .graph (m .node) in
       kept (s .inputs) fault m (stopped (s .room) node m) (execute (s .inputs) fault node m) (executed (s .inputs) fault m node)
-  stepped-of m (ended o) = record { one-step = λ on. cc; steps-more = omega arith; steps-one = omega arith; reads-more = omega arith; branches-one = omega arith }
+  stepped-of m (ended o) = stayed m o
 
   pub next-stepped : (p : Progress) → Stepped (p .machine) (next s fault p)
   unfolding next
