@@ -24,8 +24,8 @@ use Rattle.bench.specs.declared.Verdict.the-variants.{Ran}
 
 -- ---- what is run
 
--- a source in a table, with the plan of its signatures; what hardening answers of it and leaves in its buffer; and what every run is
--- lent: the input words, and a buffer for the events
+-- a source: its R, N and entry, its table, and the plan of its signatures; what hardening answers of it and leaves in its buffer; and
+-- what every run is lent: the input words, and a buffer for the events
 pub record Subject : Type 0 where
   pub plan : Plan
   pub header : Header
@@ -35,7 +35,7 @@ pub record Subject : Type 0 where
   pub inputs : List ℕ
   pub events : List ℕ
 
--- the subject that `harden` makes of a source, in a buffer `out`
+-- what `harden` makes of a source in a table, with the buffer `out`
 abbrev pub byHarden : Header → (table out inputs events : List ℕ) → Subject
 byHarden h table out inputs events = record {
   plan = onePlusRank;
@@ -61,7 +61,7 @@ pub record Run : Type 0 where
   pub answer : RunAnswer
   pub events : List ℕ
 
--- the run of a graph in a table
+-- the run of a graph in a table, from what `run` promises
 unfoldable pub runOn : Subject → Header → List ℕ → Fault → ℕ → Run
 runOn j h words fault budget = record {
   answer = answerOf (runAnswer (h .registers) (h .nodes) (h .entry) words (j .inputs) (length (j .events)) budget fault);
@@ -157,10 +157,11 @@ pub record OneTarget (s : Source) (i : ℕ) : Type 0 where
   pub is-branch : s .graph node ≡ branch comparison left right then else
   pub one-node : then ≡ else
 
--- the one exception, just at such a node, and nowhere else: with two further steps left, everything is as undisturbed
+-- the one exception: the branch after n steps is such a node
 abbrev pub Excepted : Subject → ℕ → Type 0
 Excepted j n = OneTarget (sourceIn j) (runHardened j Undisturbed n .answer .state .node)
 
+-- excepted, and with two further steps left all that is answered and written is as undisturbed; or not excepted, and caught
 abbrev pub Answered : Subject → ℕ → ℕ → ℕ → Type 0
 Answered j place n budget =
     (Excepted j n × (n + 1 + rejoined ≤ budget → runHardened j (Inverted place) budget ≡ runHardened j Undisturbed budget))
@@ -168,6 +169,7 @@ Answered j place n budget =
 
 -- ---- the statement
 
+-- demand 3 of a subject, a clause a field
 pub record Demand3 (j : Subject) : Type 0 where
   -- hardening answers R + 2, H and N
   pub hardens : j .answer ≡ given (hardenedHeader j)
