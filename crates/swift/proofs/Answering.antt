@@ -33,8 +33,10 @@ use Rattle.bench.specs.declared.RunAnswer.{RunAnswer}
 use Rattle.bench.specs.declared.State.{State}
 use Rattle.bench.specs.declared.Verdict.the-variants.{Ran}
 use Rattle.bench.proofs.Rounds.{after-more}
-use Rattle.swift.specs.Demand.{Subject, sourceIn, hardenedHeader, Run, runOn, runSource, runHardened, crossings, stepsBeside, stopping, SameTraffic, Alike, Executes, soon, CaughtSoon, Answered, Demand3}
-use Rattle.swift.specs.Trials.{Trial, plain, hardened, hardenedGraph, sourceRun, hardenedRun, crossed, hardenedSteps, beside, AtBranch, CaughtAfter, Decided}
+use Rattle.swift.specs.Demand.{Subject, sourceIn, hardenedHeader, Run, runOn, runSource, runHardened}
+use Rattle.swift.specs.Demand.{crossings, stepsBeside, stopping, SameTraffic, Alike, Executes, soon, CaughtSoon, Answered, Demand3}
+use Rattle.swift.specs.Trials.{Trial, plain, hardened, hardenedGraph, sourceRun, hardenedRun}
+use Rattle.swift.specs.Trials.{crossed, hardenedSteps, beside, AtBranch, CaughtAfter, Decided}
 use Rattle.swift.proofs.Rounds.{steps-going, branch-counted}
 use Rattle.swift.proofs.Roles.{Accepted}
 use Rattle.swift.proofs.Following.{follows}
@@ -43,6 +45,7 @@ use Rattle.swift.proofs.Budgets.{ended-steps, counts-branch, executes, 
 
 -- ---- Spent is no end of a step
 
+-- a status that a round can come to: Spent is only how a run that is still going is answered
 abbrev Unspent : Status → Type 0
 Unspent going = Unit {0}
 Unspent (ended (Returned value)) = Unit {0}
@@ -169,8 +172,9 @@ module _ (j : Subject) (behind : List ℕ) (distinct : Distinct (j .plan))
   hardened-runs : (fault : Fault) (budget : ℕ) → budget ≤ mostSteps → runHardened j fault budget ≡ shown j (hardenedRun trial fault budget)
   unfolding hardenedRun hardenedGraph
   hardened-runs fault budget few =
+      let on : List ℕ → Setting = λ words. record { graph = nodeAt words; inputs = j .inputs; room = length (j .events) } in
       answer-within j (hardenedHeader j) (j .output) hardened-in-order fault budget few
-      ∙ ap (λ words. shown j (runOf (record { graph = nodeAt words; inputs = j .inputs; room = length (j .events) }) fault (j .header .nodes) budget)) leaves
+      ∙ ap (λ words. shown j (runOf (on words) fault (j .header .nodes) budget)) leaves
 
   ran : (fault : Fault) (budget : ℕ) → budget ≤ mostSteps → (o : Outcome) × (runHardened j fault budget .answer .verdict ≡ Ran o)
   ran fault budget few = (settled (hardenedRun trial fault budget .status), ap (λ r. r .answer .verdict) (hardened-runs fault budget few))

@@ -109,7 +109,10 @@ module _ (t : Trial) (ok : Accepted (t .source)) where
   pub caught-stays : {place rounds later : ℕ} → CaughtBy t place rounds later → rounds ≤ later → (budget : ℕ) → later ≤ budget
       → CaughtBy t place rounds budget
   caught-stays {place} {rounds} {later} c low budget high =
-      record { is-caught = rw (stays budget high) (c .is-caught); quiet = record { no-read = λ k from to. both k from .0; no-event = λ k from to. both k from .1 } }
+      record {
+        is-caught = rw (stays budget high) (c .is-caught);
+        quiet = record { no-read = λ k from to. both k from .0; no-event = λ k from to. both k from .1 };
+      }
     where
       stays : (k : ℕ) → later ≤ k → hardenedRun t (Inverted place) k ≡ hardenedRun t (Inverted place) later
       stays k long = hardened-stays t (Inverted place) later k Caught (c .is-caught) long
@@ -135,9 +138,11 @@ module _ (t : Trial) (ok : Accepted (t .source)) where
       let p = after (hardened t) Undisturbed begin rounds in
       let same : p ≡ at (p .machine) going = ap (at (p .machine)) (x .under-way) in
       let so-far : p .machine .steps ≡ 0 + rounds = steps-going (hardened t) Undisturbed (start (t .source .nodes)) rounds (x .under-way) in
-      let one : next (hardened t) Undisturbed p .machine .steps ≡ p .machine .steps + 1 = rw same (branch-counted (hardened t) (p .machine) (x .at-branch) .0) in
+      let one : next (hardened t) Undisturbed p .machine .steps ≡ p .machine .steps + 1 =
+      rw same (branch-counted (hardened t) (p .machine) (x .at-branch) .0) in
       let rest : budget ≡ suc rounds + (budget - suc rounds) = omega arith in
-      let up = after-stepped (hardened t) Undisturbed (after (hardened t) Undisturbed begin (suc rounds)) (budget - suc rounds) .0 in
-      let end : after (hardened t) Undisturbed begin budget ≡ after (hardened t) Undisturbed (after (hardened t) Undisturbed begin (suc rounds)) (budget - suc rounds) =
+      let made = after (hardened t) Undisturbed begin (suc rounds) in
+      let up = after-stepped (hardened t) Undisturbed made (budget - suc rounds) .0 in
+      let end : after (hardened t) Undisturbed begin budget ≡ after (hardened t) Undisturbed made (budget - suc rounds) =
       ap (after (hardened t) Undisturbed begin) rest ∙ after-add (hardened t) Undisturbed begin (suc rounds) (budget - suc rounds) in
       rw end (omega arith)
