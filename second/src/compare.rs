@@ -215,15 +215,14 @@ impl<'a> Trial<'a> {
 
 /// A command line as it is typed; words that are not plain are quoted.
 pub fn spoken(line: &Line) -> String {
-    let plain = |word: &String| !word.is_empty() && word.bytes().all(|b| b.is_ascii_alphanumeric());
     let words: Vec<String> = line
         .iter()
-        .map(|word| {
-            if plain(word) {
-                word.clone()
-            } else {
+        .map(|word| match word {
+            _ if word.chars().any(char::is_control) => format!("$'{}'", word.escape_default()),
+            _ if word.is_empty() || word.bytes().any(|b| !b.is_ascii_alphanumeric()) => {
                 format!("'{word}'")
             }
+            _ => word.clone(),
         })
         .collect();
     words.join(" ")

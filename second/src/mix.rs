@@ -30,7 +30,7 @@ const ENOUGH: u64 = 1_000;
 
 /// How often a thousand cases have each of these at least; they are made in
 /// turn and not by chance, about twice as often.
-const WANTED: [(&str, u64); 25] = [
+const WANTED: [(&str, u64); 26] = [
     ("graphs: R 25 to 59", 20),
     ("graphs: N 258 to 2048", 15),
     ("files: R 0", 3),
@@ -47,7 +47,8 @@ const WANTED: [(&str, u64); 25] = [
     ("hscore: plainx", 2),
     ("hscore: over 1,000 positions", 2),
     ("hscore: over 1,000 words of events", 2),
-    (DIFFERS_FAR, 2),
+    (LATE_FAR, 2),
+    (CHANGED_FAR, 1),
     (LONG_RETURNED, 2),
     (LATE_VALUES, 10),
     (LATE_LAST_WORD, 5),
@@ -58,7 +59,8 @@ const WANTED: [(&str, u64); 25] = [
     (CHANGED_LAST_WORD, 2),
 ];
 
-const DIFFERS_FAR: &str = "hscore: first difference behind 1,000 words";
+const LATE_FAR: &str = "hscore: late, no difference in the first 1,000 words";
+const CHANGED_FAR: &str = "hscore: changed, no difference in the first 1,000 words";
 const LONG_RETURNED: &str = "hscore: disturbed, over 50,000 steps, returned";
 const LATE_VALUES: &str = "hscore: late by values alone";
 const LATE_LAST_WORD: &str = "hscore: late by the last word alone";
@@ -332,7 +334,7 @@ impl Marks {
                     self.0.insert(LONG_RETURNED);
                 }
                 if outcome == run.reference.outcome && run.events.len() == run.expected.len() {
-                    self.differs(run, CHANGED_VALUES, CHANGED_LAST_WORD);
+                    self.differs(run, [CHANGED_FAR, CHANGED_VALUES, CHANGED_LAST_WORD]);
                 }
             }
             _ => (),
@@ -340,7 +342,7 @@ impl Marks {
     }
 
     fn late(&mut self, run: &Disturbed) {
-        self.differs(run, LATE_VALUES, LATE_LAST_WORD);
+        self.differs(run, [LATE_FAR, LATE_VALUES, LATE_LAST_WORD]);
         let (events, expected) = (run.events, run.expected);
         let last = &events[events.len() - 2..];
         let here = expected.get(events.len() - 2..events.len());
@@ -352,8 +354,9 @@ impl Marks {
         }
     }
 
-    /// How events that are no more than the reference's differ from it, if they do.
-    fn differs(&mut self, run: &Disturbed, values: &'static str, last_word: &'static str) {
+    /// How events that are no more than the reference's differ from it: not
+    /// in the first 1,000 words, in values alone, in the last word alone.
+    fn differs(&mut self, run: &Disturbed, [far, values, last_word]: [&'static str; 3]) {
         let pairs = run.events.iter().zip(run.expected).enumerate();
         let mut differing = pairs
             .filter(|(_, (word, expected))| word != expected)
@@ -365,7 +368,7 @@ impl Marks {
             return;
         }
         if first >= 1_000 {
-            self.0.insert(DIFFERS_FAR);
+            self.0.insert(far);
         }
         // Values stand at odd places.
         if first % 2 == 1 && differing.all(|place| place % 2 == 1) {
