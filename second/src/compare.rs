@@ -254,7 +254,7 @@ fn expected(case: &Case, program: &str, line: &Line, mix: &mut Mix) -> Said {
 }
 
 /// In what a program differs from what it should have said.
-fn difference(said: &Said, expected: &Said) -> String {
+pub fn difference(said: &Said, expected: &Said) -> String {
     let mut message = match said.end {
         End::Status(0) => String::new(),
         End::Status(status) => format!("ended with status {status}\n"),

@@ -1,6 +1,7 @@
 //! The examples held against their table of scores, each through a given
 //! program and through the second one, and each file against its readable form.
 
+use crate::compare::difference;
 use crate::observe::{Said, Starter};
 use crate::programs::hscore;
 use crate::text::assemble;
@@ -43,10 +44,9 @@ pub fn check(directory: &Path, program: Option<&Path>) -> Result<bool, String> {
         if let Some(program) = program {
             let said = starter.start(program, &line, &file);
             let said = said.map_err(|error| format!("{}: {error}", program.display()))?;
-            checks.say(
-                said == Said::answer(&format!("{}\n", row.score)),
-                &format!("hscore: {name}"),
-            );
+            let expected = Said::answer(&format!("{}\n", row.score));
+            checks.say(said == expected, &format!("hscore: {name}"));
+            print!("{}", difference(&said, &expected));
         }
     }
     println!("{} passed, {} failed", checks.passed, checks.failed);
