@@ -90,6 +90,18 @@ enum Wrong {
     Twice,
 }
 
+impl Wrong {
+    /// Nodes 7 and 8 of a guarded loop, which go on at 9.
+    fn rows(self, port: u32, v: u32, one: u32, other: u32) -> [Row; 2] {
+        match self {
+            Wrong::Value => [[OP, 4, other, v, one, 8], [OUT, port, other, 9, 0, 0]],
+            Wrong::Port => [[CONST, other, 1, 8, 0, 0], [OUT, port ^ 1, v, 9, 0, 0]],
+            Wrong::Silent => [[CONST, other, 1, 8, 0, 0], [CONST, other, 2, 9, 0, 0]],
+            Wrong::Twice => [[OUT, port, v, 8, 0, 0], [OUT, port, v, 9, 0, 0]],
+        }
+    }
+}
+
 #[derive(Clone, Copy)]
 struct Guard {
     wrong: Wrong,
@@ -124,12 +136,7 @@ fn guarded(dice: &mut Dice, rounds: u32, guard: Guard) -> Draft {
     let [i, one, v, flag, zero, other] = [0, 1, 2, 3, 4, 5].map(|name| names[name]);
     let (port, start) = (dice.between(1, 254), dice.word());
     let by = dice.pick(&[i, one, zero]);
-    let wrong = match guard.wrong {
-        Wrong::Value => [[OP, 4, other, v, one, 8], [OUT, port, other, 9, 0, 0]],
-        Wrong::Port => [[CONST, other, 1, 8, 0, 0], [OUT, port ^ 1, v, 9, 0, 0]],
-        Wrong::Silent => [[CONST, other, 1, 8, 0, 0], [CONST, other, 2, 9, 0, 0]],
-        Wrong::Twice => [[OUT, port, v, 8, 0, 0], [OUT, port, v, 9, 0, 0]],
-    };
+    let wrong = guard.wrong.rows(port, v, one, other);
     let closing = match guard.closing {
         true => [OUT, port ^ 1, one, 11, 0, 0],
         false => [CONST, other, 0, 11, 0, 0],
