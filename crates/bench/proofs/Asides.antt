@@ -167,7 +167,8 @@ module _ (table inputs : List ℕ) (room entry budget : ℕ) where
   -- ---- the run has ended
 
   -- a run's events begin with those that it had before
-  later : (fault : Fault) (place : ℕ) (aside : State) (shared : ℕ) (a : Aside place aside shared) → runOf s fault entry (aside .steps) ≡ at (machineOf aside (a .events)) going
+  later : (fault : Fault) (place : ℕ) (aside : State) (shared : ℕ) (a : Aside place aside shared)
+      → runOf s fault entry (aside .steps) ≡ at (machineOf aside (a .events)) going
       → Grown (machineOf aside (a .events)) (runOf s fault entry budget .machine)
   later fault place aside shared a here =
       subst (λ (p : Progress). Grown (machineOf aside (a .events)) (p .machine)) (sym (run-on s fault entry _ (aside .steps) budget (a .ready .in-budget) here))
@@ -313,7 +314,8 @@ module _ (table inputs : List ℕ) (room entry budget : ℕ) where
 
     module _ (place : ℕ) (score : Score) where
       -- the last run is made
-      pub makes : (held : List ℕ) → Stage first reference tried positions buffer place held score → positions ≤ place → (outcome : Outcome) (state : State) (words : ℕ) (last : List ℕ)
+      pub makes : (held : List ℕ) → Stage first reference tried positions buffer place held score → positions ≤ place
+          → (outcome : Outcome) (state : State) (words : ℕ) (last : List ℕ)
           → Finished place held outcome state words last
           → Makes s entry budget first reference tried positions buffer (record { outcome = outcome; state = state; words = words; score = score }) last
       makes held (inl (one, is, same, none)) done outcome state words last f =
@@ -327,7 +329,8 @@ module _ (table inputs : List ℕ) (room entry budget : ℕ) where
       so-far held (inl (one, is, same, none)) below = absurd (omega arith)
       so-far held (inr (some, few, is)) below = is
 
-      pub stage-next : place < positions → score ≡ scores place → (class : Class) → class ≡ classAt s entry budget (reference .value) (take (reference .words) first) place
+      pub stage-next : place < positions → score ≡ scores place → (class : Class)
+          → class ≡ classAt s entry budget (reference .value) (take (reference .words) first) place
           → (score′ : Score) → score′ ≡ tallied class score → (held′ : List ℕ) → Stage first reference tried positions buffer (place + 1) held′ score′
       stage-next below is class found score′ counts held′ =
           inr (omega arith, omega arith, counts ∙ (rw (found, is)) ∙ sym (score-more s entry budget _ _ place))

@@ -45,7 +45,8 @@ module _ (table inputs first second : List ℕ) (entry budget : ℕ) where
   abbrev run : Progress
   run = runOf s Undisturbed entry budget
 
-  reports : (r : CampaignAnswer) → scoreAnswer s entry budget ≡ campaignOf r → Reported table inputs first second entry budget r (written (campaignOf r) (λ _. over (run .machine .events) first) first) (written (campaignOf r) (λ _. replicate (length second) 0) second)
+  reports : (r : CampaignAnswer) → scoreAnswer s entry budget ≡ campaignOf r
+      → Reported table inputs first second entry budget r (written (campaignOf r) (λ _. over (run .machine .events) first) first) (written (campaignOf r) (λ _. replicate (length second) 0) second)
   reports r e = rw e (refl, (refl, refl))
 
   -- the trial run inverts no branch
@@ -61,7 +62,8 @@ module _ (table inputs first second : List ℕ) (entry budget : ℕ) where
       (n, ends .1 ∙ ap (λ (l : List ℕ). put l 0 (trial .machine .events)) is, ap (λ (r : End). r .words) (ends .0))
 
   -- a trial run that does not return
-  pub scored-none : (made : End) → made ≡ endedOf trial → OneOf (1 ∷ 2 ∷ 3 ∷ []) (tagOf the-type (made .outcome)) → Reported table inputs first second entry budget (Refused 13 0) first second
+  pub scored-none : (made : End) → made ≡ endedOf trial → OneOf (1 ∷ 2 ∷ 3 ∷ []) (tagOf the-type (made .outcome))
+      → Reported table inputs first second entry budget (Refused 13 0) first second
   scored-none made tries other =
       let ends : made .outcome ≡ settled (run .status) = ap (λ (r : End). r .outcome) (tries ∙ ap endedOf undisturbed) in
       reports (Refused 13 0) (no-value s entry budget (run .machine) (settled (run .status)) (rw ends at other))
@@ -103,7 +105,8 @@ module _ (s : Setting) (entry budget : ℕ) (trial : List ℕ) (words : ℕ) (t 
   pub tried-fits : words ≤ s .room
   tried-fits = let w = within s (Inverted budget) entry budget in let count = t .2 in omega arith
 
-  pub tried-copied : (first last : List ℕ) → words ≤ length trial → last ≡ put first 0 (take words trial) → last ≡ put first 0 (runOf s (Inverted budget) entry budget .machine .events)
+  pub tried-copied : (first last : List ℕ) → words ≤ length trial → last ≡ put first 0 (take words trial)
+      → last ≡ put first 0 (runOf s (Inverted budget) entry budget .machine .events)
   tried-copied first last all copied =
       let count = t .2 in
       let size : length trial ≡ t .0 = ap length (t .1) ∙ length-put _ 0 _ ∙ length-replicate {A = ℕ} (t .0) 0 in
@@ -118,7 +121,8 @@ module _ (registers nodes entry : ℕ) (table inputs first second : List ℕ) (b
       × (cleared ≡ campaignSecond registers nodes entry table inputs first second budget))
 
   -- one answer, and with it what both buffers hold
-  campaigns : (answer : Answer Score) → campaignAnswer registers nodes entry table inputs (length first) (length second) budget ≡ answer → (r : CampaignAnswer) {last cleared : List ℕ}
+  campaigns : (answer : Answer Score) → campaignAnswer registers nodes entry table inputs (length first) (length second) budget ≡ answer
+      → (r : CampaignAnswer) {last cleared : List ℕ}
       → campaignOf r ≡ answer
       → last ≡ written answer (λ _. over (runOf (settingOf table inputs (length first)) Undisturbed entry budget .machine .events) first) first
       → cleared ≡ written answer (λ _. replicate (length second) 0) second
@@ -140,7 +144,8 @@ module _ (registers nodes entry : ℕ) (table inputs first second : List ℕ) (b
     campaign-fourteen h differ =
         campaigns (refused 14 0) (rw (ok, le-leb budget mostSteps h, ne-eqb (length first) (length second) differ)) (Refused 14 0) refl refl refl
 
-    pub campaign-scored : budget ≤ mostSteps → length first ≡ length second → (r : CampaignAnswer) (last cleared : List ℕ) → Reported table inputs first second entry budget r last cleared → Campaigns r last cleared
+    pub campaign-scored : budget ≤ mostSteps → length first ≡ length second → (r : CampaignAnswer) (last cleared : List ℕ)
+        → Reported table inputs first second entry budget r last cleared → Campaigns r last cleared
     unfolding campaignAnswer
     campaign-scored h same r last cleared reported =
         campaigns _ (rw (ok, le-leb budget mostSteps h, eq-eqb (length first) (length second) same)) r (reported .0) (reported .1 .0) (reported .1 .1)

@@ -37,7 +37,8 @@ node-in-more registers nodes h (ret a) i = omega arith
 node-in-more registers nodes h stop i = tt
 
 -- a run may start at the entry of a checked graph
-pub ready-start : (registers nodes entry : ℕ) (table : List ℕ) (budget : ℕ) → runnableCheck registers nodes entry table ≡ given tt → Ready table budget (stateOf (start entry))
+pub ready-start : (registers nodes entry : ℕ) (table : List ℕ) (budget : ℕ) → runnableCheck registers nodes entry table ≡ given tt
+    → Ready table budget (stateOf (start entry))
 unfolding start
 ready-start registers nodes entry table budget ok =
     let facts = runnable-facts registers nodes entry table ok in
@@ -55,7 +56,8 @@ ready-start registers nodes entry table budget ok =
     }
 
 -- the events of a run lie over the first words of a buffer that has room for them
-pub events-over : (s : Setting) (fault : Fault) (entry budget : ℕ) (buffer : List ℕ) → s .room ≡ length buffer → put buffer 0 (runOf s fault entry budget .machine .events) ≡ over (runOf s fault entry budget .machine .events) buffer
+pub events-over : (s : Setting) (fault : Fault) (entry budget : ℕ) (buffer : List ℕ) → s .room ≡ length buffer
+    → put buffer 0 (runOf s fault entry budget .machine .events) ≡ over (runOf s fault entry budget .machine .events) buffer
 events-over s fault entry budget buffer h =
     let w = within s fault entry budget in
     put-over buffer (runOf s fault entry budget .machine .events) (omega arith)
@@ -66,11 +68,13 @@ module _ (registers nodes entry : ℕ) (table inputs buffer : List ℕ) (budget 
       (r ≡ answerOf (runAnswer registers nodes entry table inputs (length buffer) budget fault))
       × (last ≡ runEvents registers nodes entry table inputs buffer budget fault)
 
-  answers : (answer : Answer Progress) → runAnswer registers nodes entry table inputs (length buffer) budget fault ≡ answer → Answers (answerOf answer) (written answer (λ p. over (p .machine .events) buffer) buffer)
+  answers : (answer : Answer Progress) → runAnswer registers nodes entry table inputs (length buffer) budget fault ≡ answer
+      → Answers (answerOf answer) (written answer (λ p. over (p .machine .events) buffer) buffer)
   unfolding runEvents
   answers answer e = rw e (refl, refl)
 
-  pub run-refused : (number place : ℕ) {r : RunAnswer} → r ≡ answerOf (refused number place) → runnableCheck registers nodes entry table ≡ refused number place → Answers r buffer
+  pub run-refused : (number place : ℕ) {r : RunAnswer} → r ≡ answerOf (refused number place)
+      → runnableCheck registers nodes entry table ≡ refused number place → Answers r buffer
   unfolding runAnswer
   run-refused number place e no-graph = rw e (answers (refused number place) (rw no-graph))
 
@@ -79,7 +83,8 @@ module _ (registers nodes entry : ℕ) (table inputs buffer : List ℕ) (budget 
   run-twelve e ok h = rw e (answers (refused 12 0) (rw (ok, lt-leb budget mostSteps h)))
 
   -- how the run ended is the answer
-  pub run-made : (ended : End) (last : List ℕ) → runnableCheck registers nodes entry table ≡ given tt → budget ≤ mostSteps → {place : ℕ} → place ≡ placeOf fault budget
+  pub run-made : (ended : End) (last : List ℕ) → runnableCheck registers nodes entry table ≡ given tt → budget ≤ mostSteps → {place : ℕ}
+      → place ≡ placeOf fault budget
       → Ends (runOf (settingOf table inputs (length buffer)) (Inverted place) entry budget) buffer ended last
       → Answers (record { verdict = Ran (ended .outcome); state = ended .state; events = ended .words / 2 }) last
   unfolding runAnswer

@@ -26,7 +26,8 @@ module _ (s : Setting) (place : ℕ) where
   same-step f m (ret a) h = refl
   same-step f m stop h = refl
 
-  same-next : (f : Fault) (m : Machine) (status : Status) → nextOf s f m status .machine .branches ≤ place → nextOf s (Inverted place) m status ≡ nextOf s Undisturbed m status
+  same-next : (f : Fault) (m : Machine) (status : Status) → nextOf s f m status .machine .branches ≤ place
+      → nextOf s (Inverted place) m status ≡ nextOf s Undisturbed m status
   unfolding step
   same-next f m going h = same-step f m (s .graph (m .node)) h
   same-next f m (ended outcome) h = refl
@@ -35,7 +36,8 @@ module _ (s : Setting) (place : ℕ) where
   abbrev Either : Fault → Type 0
   Either f = (f ≡ Undisturbed) ⊎ (f ≡ Inverted place)
 
-  alike-after : (f : Fault) → Either f → (p : Progress) (rounds : ℕ) → after s f p rounds .machine .branches ≤ place → after s (Inverted place) p rounds ≡ after s Undisturbed p rounds
+  alike-after : (f : Fault) → Either f → (p : Progress) (rounds : ℕ) → after s f p rounds .machine .branches ≤ place
+      → after s (Inverted place) p rounds ≡ after s Undisturbed p rounds
   unfolding after next
   alike-after f either p zero h = refl
   alike-after f either p (suc rounds) h =
@@ -53,12 +55,14 @@ module _ (s : Setting) (place : ℕ) where
       → after s (Inverted place) p rounds ≡ after s Undisturbed p rounds
   unreached-after p rounds h = alike-after Undisturbed (inl refl) p rounds h
 
-  pub unreached : (entry budget : ℕ) → runOf s Undisturbed entry budget .machine .branches ≤ place → runOf s (Inverted place) entry budget ≡ runOf s Undisturbed entry budget
+  pub unreached : (entry budget : ℕ) → runOf s Undisturbed entry budget .machine .branches ≤ place
+      → runOf s (Inverted place) entry budget ≡ runOf s Undisturbed entry budget
   unfolding runOf
   unreached entry budget h = unreached-after (at (start entry) going) budget h
 
   -- seen from the other side
-  pub not-reached : (entry budget : ℕ) → runOf s (Inverted place) entry budget .machine .branches ≤ place → runOf s (Inverted place) entry budget ≡ runOf s Undisturbed entry budget
+  pub not-reached : (entry budget : ℕ) → runOf s (Inverted place) entry budget .machine .branches ≤ place
+      → runOf s (Inverted place) entry budget ≡ runOf s Undisturbed entry budget
   unfolding runOf
   not-reached entry budget h = alike-after (Inverted place) (inr refl) (at (start entry) going) budget h
 
@@ -68,7 +72,8 @@ as-placed s Undisturbed entry budget = let w = within s Undisturbed entry budget
 as-placed s (Inverted place) entry budget = refl
 
 -- what a run comes to from where it stands after some rounds
-pub run-on : (s : Setting) (fault : Fault) (entry : ℕ) (p : Progress) (k budget : ℕ) → k ≤ budget → runOf s fault entry k ≡ p → runOf s fault entry budget ≡ after s fault p (budget - k)
+pub run-on : (s : Setting) (fault : Fault) (entry : ℕ) (p : Progress) (k budget : ℕ) → k ≤ budget → runOf s fault entry k ≡ p
+    → runOf s fault entry budget ≡ after s fault p (budget - k)
 unfolding runOf
 run-on s fault entry p k budget h here =
     let all : budget ≡ k + (budget - k) = omega arith in

@@ -53,7 +53,9 @@ module _ (registers inputs : List ℕ) (reads self : ℕ) (flips : Bool) (nodes 
   named stop i = (omega arith, h)
 
 -- the effect that the code computes
-pub effect-from : (table inputs : List ℕ) (room : ℕ) (fault : Fault) (state : State) {e : Effect} {flips : Bool} → flips ≡ inverts fault (state .branches) → e ≡ effectOf (state .registers) inputs (state .reads) (state .node) flips (nodeAt table (state .node)) → e ≡ effectFrom (settingOf table inputs room) fault state
+pub effect-from : (table inputs : List ℕ) (room : ℕ) (fault : Fault) (state : State) {e : Effect} {flips : Bool}
+    → flips ≡ inverts fault (state .branches) → e ≡ effectOf (state .registers) inputs (state .reads) (state .node) flips (nodeAt table (state .node))
+    → e ≡ effectFrom (settingOf table inputs room) fault state
 unfolding effectFrom
 effect-from table inputs room fault state f eq =
     eq ∙ ap (λ (b : Bool). effectOf (state .registers) inputs (state .reads) (state .node) b (nodeAt table (state .node))) f
@@ -70,7 +72,8 @@ module _ (table inputs : List ℕ) (room budget : ℕ) (fault : Fault) (state : 
       (record { register = n .0; next = n .1; counts = counts (state .registers) inputs (state .reads) (state .node) flips node })
 
   -- a state that a run can be in is followed by another
-  pub ready-applied : Ready table budget state → state .steps < budget → e ≡ effectFrom (settingOf table inputs room) fault state → Ready table budget (applied state e)
+  pub ready-applied : Ready table budget state → state .steps < budget → e ≡ effectFrom (settingOf table inputs room) fault state
+      → Ready table budget (applied state e)
   ready-applied ready h eq =
       let i = ready .inside in
       let m = small ready eq in
