@@ -22,6 +22,9 @@ const USAGE: &str = "expected one of:
 /// Reports beyond this many are counted and not printed.
 const REPORTS: u64 = 10;
 
+/// From so many cases on everything has to occur that can.
+const MANY: u64 = 1_000;
+
 fn main() -> ExitCode {
     let words: Vec<String> = std::env::args().skip(1).collect();
     let numbers: Option<Vec<u64>> = words.iter().skip(1).map(|word| word.parse().ok()).collect();
@@ -78,8 +81,10 @@ impl Tally {
         for index in 0..cases {
             tally.case(seed, index, |_, _| ());
         }
-        for what in tally.mix.missing() {
-            tally.fail(format!("DID NOT OCCUR with seed {seed}: {what}"));
+        if cases >= MANY {
+            for what in tally.mix.missing() {
+                tally.fail(format!("DID NOT OCCUR with seed {seed}: {what}"));
+            }
         }
         tally
     }
