@@ -1,50 +1,77 @@
-// The entry points that a program in another language times. Each hands out one number of the answer at a call.
+// The entry points that a program in another language compares and times. Each hands out one number of the answer at a call.
+mod parts; // parts.rt: the numbers of an answer
+
 ghost use mathlib.Core.Path.{_≡_};
-ghost use lib.ListN.{length};
+ghost use lib.ListN.{length, getD};
+ghost use Rattle.graph.specs.Checks.{runnableCheck, sourceCheck};
+ghost use Rattle.file.specs.Reading.{readAnswer, readTable};
+ghost use Rattle.harden.specs.Hardened.{hardenAnswer, hardenOutput};
 ghost use Rattle.bench.specs.Runs.{answerOf, runAnswer, runEvents};
 ghost use Rattle.bench.specs.Campaigns.{campaignAnswer, campaignFirst, campaignSecond};
-ghost use Rattle.bench.specs.declared.Fault.the-variants.{Undisturbed};
-ghost use Rattle.harden.specs.Hardened.{hardenAnswer, hardenOutput};
-ghost use Rattle.yardstick.specs.Parts.{runPart, scorePart, campaignPart, hardenedNodes};
-use bench::CampaignAnswer;
-use bench::Fault;
-use bench::RunAnswer;
-use bench::Score;
-use harden::Hardening;
+ghost use Rattle.yardstick.specs.Parts.{checkNumbers, graphNumbers, runNumbers, scoreNumbers, faultOf};
 
-// A number of a run's answer: the counts, the node, then the registers.
-fn run_part(answer: RunAnswer, part: usize) -> usize
-    ensures { λ r. ⌜ r ≡ runPart answer part ⌝ }
+// Reading a file: a number of the answer.
+#[no_mangle]
+pub extern "C" fn yardstick_read(bytes: &[u8], table: &mut [u32], part: usize) -> usize
+    ensures { λ r. ⌜ r ≡ getD (graphNumbers (readAnswer (now (bytes .entry)) (length (now (table .entry))))) part 0 ⌝ }
+    ensures { λ _. ⌜ now (table .exit) ≡ readTable (now (bytes .entry)) (now (table .entry)) ⌝ }
 {
-    match part {
-        0 => answer.state.steps,
-        1 => answer.state.branches,
-        2 => answer.state.reads,
-        3 => answer.events,
-        4 => answer.state.node,
-        5.. => {
-            let registers = answer.state.registers;
-            words::word(&registers, part - 5) as usize
-        }
-    }
+    let answer = file::read(bytes, table);
+    let numbers = parts::read_numbers(answer);
+    parts::number_of(&numbers, part)
 }
 
-// A number of a score: the positions, then the five counts.
-fn score_part(score: Score, part: usize) -> usize
-    ensures { λ r. ⌜ r ≡ scorePart score part ⌝ }
+// The check of a runnable graph: a number of the answer.
+#[no_mangle]
+pub extern "C" fn yardstick_check_runnable(
+    registers: usize,
+    nodes: usize,
+    entry: usize,
+    table: &[u32],
+    part: usize,
+) -> usize
+    ensures { λ r. ⌜ r ≡ getD (checkNumbers (runnableCheck registers nodes entry (now (table .entry)))) part 0 ⌝ }
 {
-    match part {
-        0 => score.positions,
-        1 => score.caught,
-        2 => score.late,
-        3 => score.harmless,
-        4 => score.changed,
-        5 => score.unended,
-        6.. => 0,
-    }
+    let answer = graph::check_runnable(registers, nodes, entry, table);
+    let numbers = parts::check_numbers(answer);
+    parts::number_of(&numbers, part)
 }
 
-// An undisturbed run: a number of its answer, 0 on a refusal.
+// The check of a source graph: a number of the answer.
+#[no_mangle]
+pub extern "C" fn yardstick_check_source(
+    registers: usize,
+    nodes: usize,
+    entry: usize,
+    table: &[u32],
+    part: usize,
+) -> usize
+    ensures { λ r. ⌜ r ≡ getD (checkNumbers (sourceCheck registers nodes entry (now (table .entry)))) part 0 ⌝ }
+{
+    let answer = graph::check_source(registers, nodes, entry, table);
+    let numbers = parts::check_numbers(answer);
+    parts::number_of(&numbers, part)
+}
+
+// Hardening: a number of the answer.
+#[no_mangle]
+pub extern "C" fn yardstick_harden(
+    registers: usize,
+    nodes: usize,
+    entry: usize,
+    table: &[u32],
+    out: &mut [u32],
+    part: usize,
+) -> usize
+    ensures { λ r. ⌜ r ≡ getD (graphNumbers (hardenAnswer registers nodes entry (now (table .entry)) (length (now (out .entry))))) part 0 ⌝ }
+    ensures { λ _. ⌜ now (out .exit) ≡ hardenOutput registers nodes entry (now (table .entry)) (now (out .entry)) ⌝ }
+{
+    let answer = harden::harden(registers, nodes, entry, table, out);
+    let numbers = parts::harden_numbers(answer);
+    parts::number_of(&numbers, part)
+}
+
+// A run, undisturbed or with the branch at a place inverted: a number of the answer.
 #[no_mangle]
 pub extern "C" fn yardstick_run(
     registers: usize,
@@ -54,11 +81,14 @@ pub extern "C" fn yardstick_run(
     inputs: &[u32],
     events: &mut [u32],
     budget: usize,
+    inverted: bool,
+    place: usize,
     part: usize,
 ) -> usize
-    ensures { λ r. ⌜ r ≡ runPart (answerOf (runAnswer registers nodes entry (now (table .entry)) (now (inputs .entry)) (length (now (events .entry))) budget Undisturbed)) part ⌝ }
-    ensures { λ _. ⌜ now (events .exit) ≡ runEvents registers nodes entry (now (table .entry)) (now (inputs .entry)) (now (events .entry)) budget Undisturbed ⌝ }
+    ensures { λ r. ⌜ r ≡ getD (runNumbers (answerOf (runAnswer registers nodes entry (now (table .entry)) (now (inputs .entry)) (length (now (events .entry))) budget (faultOf inverted place)))) part 0 ⌝ }
+    ensures { λ _. ⌜ now (events .exit) ≡ runEvents registers nodes entry (now (table .entry)) (now (inputs .entry)) (now (events .entry)) budget (faultOf inverted place) ⌝ }
 {
+    let fault = parts::fault(inverted, place);
     let answer = bench::run(
         registers,
         nodes,
@@ -67,12 +97,12 @@ pub extern "C" fn yardstick_run(
         inputs,
         events,
         budget,
-        Fault::Undisturbed,
+        fault,
     );
-    run_part(answer, part)
+    parts::run_part(answer, part)
 }
 
-// A campaign: a number of its score, 0 on a refusal.
+// A campaign: a number of the answer.
 #[no_mangle]
 pub extern "C" fn yardstick_campaign(
     registers: usize,
@@ -85,11 +115,11 @@ pub extern "C" fn yardstick_campaign(
     budget: usize,
     part: usize,
 ) -> usize
-    ensures { λ r. ⌜ r ≡ campaignPart (campaignAnswer registers nodes entry (now (table .entry)) (now (inputs .entry)) (length (now (first .entry))) (length (now (second .entry))) budget) part ⌝ }
+    ensures { λ r. ⌜ r ≡ getD (scoreNumbers (campaignAnswer registers nodes entry (now (table .entry)) (now (inputs .entry)) (length (now (first .entry))) (length (now (second .entry))) budget)) part 0 ⌝ }
     ensures { λ _. ⌜ now (first .exit) ≡ campaignFirst registers nodes entry (now (table .entry)) (now (inputs .entry)) (now (first .entry)) (now (second .entry)) budget ⌝ }
     ensures { λ _. ⌜ now (second .exit) ≡ campaignSecond registers nodes entry (now (table .entry)) (now (inputs .entry)) (now (first .entry)) (now (second .entry)) budget ⌝ }
 {
-    match bench::campaign(
+    let answer = bench::campaign(
         registers,
         nodes,
         entry,
@@ -98,26 +128,7 @@ pub extern "C" fn yardstick_campaign(
         first,
         second,
         budget,
-    ) {
-        CampaignAnswer::Scored(score) => score_part(score, part),
-        CampaignAnswer::Refused(_, _) => 0,
-    }
-}
-
-// Hardening: H, 0 on a refusal.
-#[no_mangle]
-pub extern "C" fn yardstick_harden(
-    registers: usize,
-    nodes: usize,
-    entry: usize,
-    table: &[u32],
-    out: &mut [u32],
-) -> usize
-    ensures { λ r. ⌜ r ≡ hardenedNodes (hardenAnswer registers nodes entry (now (table .entry)) (length (now (out .entry)))) ⌝ }
-    ensures { λ _. ⌜ now (out .exit) ≡ hardenOutput registers nodes entry (now (table .entry)) (now (out .entry)) ⌝ }
-{
-    match harden::harden(registers, nodes, entry, table, out) {
-        Hardening::Hardened(header) => header.nodes,
-        Hardening::Refused(_, _) => 0,
-    }
+    );
+    let numbers = parts::campaign_numbers(answer);
+    parts::number_of(&numbers, part)
 }
