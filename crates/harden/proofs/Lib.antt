@@ -14,3 +14,4 @@ pub mod Ranks
 pub mod Crossings
 pub mod Runnable
 pub mod Listing
+pub mod Tails
