@@ -14,3 +14,4 @@ pub mod Walks
 pub mod Campaigned
 pub mod Signed
 pub mod Accepted
+pub mod Tails
