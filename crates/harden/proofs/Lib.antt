@@ -15,3 +15,4 @@ pub mod Crossings
 pub mod Runnable
 pub mod Listing
 pub mod Tails
+pub mod Words
