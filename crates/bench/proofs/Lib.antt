@@ -15,3 +15,4 @@ pub mod Campaigned
 pub mod Signed
 pub mod Accepted
 pub mod Tails
+pub mod Held
