@@ -3,7 +3,7 @@
 use Prim.Native.Nat.{ℕ, _+_, _-_, _*_}
 use mathlib.Core.Bool.{Bool, true, false, cond}
 use mathlib.Core.List.{List, [], _∷_, _++_}
-use lib.ListN.{length, replicate}
+use lib.ListN.{length, take, replicate}
 use lib.Dec.{eqb, ltb, leb}
 use Rattle.words.specs.Answer.{Answer, given, refused, andThen}
 use Rattle.graph.specs.declared.Header.{Header}
@@ -121,6 +121,15 @@ scoreWith cells (Wrong wanted) bytes = complaint (complaintLine wanted)
 
 unfoldable pub scoreProgram : List ℕ → List ℕ → Print
 scoreProgram cells bytes = scoreWith cells (settingsOf cells) bytes
+
+-- the bytes of text that a program lends
+abbrev pub textBytes : ℕ
+textBytes = 196608
+
+-- what is printed of the text, for each case of a program's answer
+abbrev pub printOf : Printed → List ℕ → Print
+printOf (Output size) text = output (take size text)
+printOf (Complaint size) text = complaint (take size text)
 
 -- what a program leaves in its text, and how long it says that is, for each case
 pub data Shown (before : List ℕ) : Print → List ℕ → Printed → Type 0 where
