@@ -1,19 +1,19 @@
 -- Every register and every event word of a run is a 32-bit word, where the table's and the input's are, and there are 64 registers.
 -- Assumes nothing.
-use mathlib.Core.Path.{_≡_, refl, ap, _∙_}
+use mathlib.Core.Path.{_≡_, _∙_}
 use mathlib.Core.Bool.{Bool, true, false, cond}
-use mathlib.Core.List.{List, [], _∷_, _++_}
+use mathlib.Core.List.{List, [], _∷_}
 use mathlib.Core.Option.{none, some}
 use Prim.Native.Nat.{ℕ, zero, suc, _+_, _*_, _%_, _^_, _<_}
 use native.Mathlib.Nat.{div-le-self, mod-lt}
 use native.Mathlib.Omega.{arith}
 use lib.Bits.{and-le-l, or-lt, xor-lt}
 use lib.Dec.{leb}
-use lib.ListN.{length, getD, set, replicate, length-set, length-replicate}
+use lib.ListN.{length, getD, set, length-set, length-replicate}
 use Rattle.words.proofs.AllWords.{AllWords, word-at, words-append, words-set, words-zeros}
-use Rattle.graph.specs.Nodes.{Node, go, branch, ret, stop, Action, const, op, input, output, nodeOf, nodeAt}
+use Rattle.graph.specs.Nodes.{Node, go, branch, ret, stop, const, op, input, output, nodeOf, nodeAt}
 use Rattle.bench.specs.Words.{operate}
-use Rattle.bench.specs.Steps.{Machine, Setting, Status, going, ended, Progress, at, start, get, act, stopped, execute, unless, step}
+use Rattle.bench.specs.Steps.{Machine, Setting, Status, going, ended, Progress, at, start, get, stopped, execute, unless, step}
 use Rattle.bench.specs.Runs.{nextOf, next, after, runOf}
 use Rattle.bench.specs.declared.Fault.{Fault}
 use Rattle.bench.specs.declared.Outcome.the-variants.{Full}

@@ -3,7 +3,7 @@
 -- Assumes nothing.
 use mathlib.Core.Path.{_≡_, refl, ap}
 use mathlib.Core.Bool.{Bool, true, false, cond, _&&_}
-use mathlib.Core.List.{List, [], _∷_, _++_}
+use mathlib.Core.List.{List, [], _∷_}
 use mathlib.Core.Option.{Option, none, some}
 use Prim.Native.Nat.{ℕ, zero, suc, _+_, _*_, _%_, _^_, _≤_, _<_}
 use native.Mathlib.Omega.{arith}
@@ -29,7 +29,7 @@ use Rattle.bench.specs.declared.Score.{Score}
 use Rattle.bench.specs.declared.State.{State}
 use Rattle.bench.proofs.Bounds.{within}
 use Rattle.bench.proofs.Held.{Held, held-run}
-use Rattle.text.specs.Decimals.{decimal, spaced, valueFrom, valueOf}
+use Rattle.text.specs.Decimals.{valueFrom, valueOf}
 use Rattle.text.specs.Places.{Wrote}
 use Rattle.text.proofs.Lengths.{decimal-length, spaced-length, words-length}
 use Rattle.text.proofs.Writing.{wrote-fits}

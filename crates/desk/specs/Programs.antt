@@ -126,7 +126,11 @@ scoreProgram cells bytes = scoreWith cells (settingsOf cells) bytes
 abbrev pub textBytes : ℕ
 textBytes = 196608
 
--- what is printed of the text, for each case of a program's answer
+-- how long the text is that a program's answer tells of, and what is printed of it, for each case
+abbrev pub sizeOf : Printed → ℕ
+sizeOf (Output size) = size
+sizeOf (Complaint size) = size
+
 abbrev pub printOf : Printed → List ℕ → Print
 printOf (Output size) text = output (take size text)
 printOf (Complaint size) text = complaint (take size text)

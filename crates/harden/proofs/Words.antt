@@ -2,20 +2,20 @@
 -- Assumes nothing.
 use mathlib.Core.Path.{_≡_, refl}
 use mathlib.Core.Bool.{Bool, true, false, cond}
-use mathlib.Core.List.{List, [], _∷_, _++_}
+use mathlib.Core.List.{List, [], _∷_}
 use Prim.Native.Nat.{ℕ, zero, suc, _+_, _*_, _^_, _≤_, _<_}
 use native.Mathlib.Omega.{arith}
 use lib.Bits.{xor-lt}
-use lib.ListN.{length, take, drop}
+use lib.ListN.{length, drop}
 use Rattle.words.specs.Answer.{Answer, given, refused, written}
 use Rattle.words.specs.Buffer.{over}
 use Rattle.words.proofs.AllWords.{AllWords, words-append, words-take, words-drop}
-use Rattle.graph.specs.Nodes.{Node, go, branch, ret, stop, const, op, input, output, Operand, register, constant, nodeAt, wordsOf}
+use Rattle.graph.specs.Nodes.{Node, go, branch, ret, stop, const, op, input, output, register, constant, wordsOf}
 use Rattle.graph.specs.Accepted.{NodeIn, SourceGraph}
 use Rattle.graph.specs.Checks.{sourceCheck}
 use Rattle.graph.specs.declared.Header.{Header}
 use Rattle.graph.proofs.Facts.{and-given, source-facts, source-runnable, row-words}
-use Rattle.harden.specs.Blocks.{signature, blockHead, rank, onePlusRank}
+use Rattle.harden.specs.Blocks.{signature, blockHead, rank}
 use Rattle.harden.specs.Hardened.{Source, prepare, update, check, branchGroup, crossingGroup, groupOf, ownRow, sign, crossing, groupAt, sourceRows, groupRows, firstRow, hardenedRows, hardenedTable, tableOf, sourceOf, hardenAnswer, hardenOutput}
 use Rattle.harden.specs.Passes.{aimed}
 use Rattle.harden.proofs.Count.{group-bound}

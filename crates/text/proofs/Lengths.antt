@@ -1,11 +1,10 @@
 -- How long numbers are as text: at most twenty digits, and ten of a 32-bit word.
 -- Assumes nothing.
-use mathlib.Core.Path.{_≡_}
 use Prim.Native.Nat.{ℕ, zero, suc, _+_, _*_, _/_, _%_, _^_, _≤_, _<_}
 use native.Mathlib.Nat.{mul-suc, pow-suc}
 use native.Mathlib.Decide.{decLt}
 use native.Mathlib.Omega.{arith}
-use mathlib.Core.List.{List, [], _∷_, _++_}
+use mathlib.Core.List.{List, [], _∷_}
 use lib.ListN.{length, length-append}
 use Rattle.words.proofs.AllWords.{AllWords}
 use Rattle.text.specs.Decimals.{digitsIn, decimal, spaced}
