@@ -54,7 +54,8 @@ node-words (suc (suc (suc (suc (suc (suc (suc (suc kind)))))))) v w x y z h k = 
 table-words : (table : List ℕ) → AllWords table → (n : ℕ) → NodeWords (nodeAt table n)
 unfolding nodeAt
 table-words table all n =
-    node-words (getD table (6 * n) 0) (getD table (6 * n + 1) 0) (getD table (6 * n + 2) 0) (getD table (6 * n + 3) 0) (getD table (6 * n + 4) 0) (getD table (6 * n + 5) 0)
+    node-words (getD table (6 * n) 0) (getD table (6 * n + 1) 0) (getD table (6 * n + 2) 0)
+    (getD table (6 * n + 3) 0) (getD table (6 * n + 4) 0) (getD table (6 * n + 5) 0)
     (word-at table (6 * n + 1) all) (word-at table (6 * n + 2) all)
 
 -- what a machine holds

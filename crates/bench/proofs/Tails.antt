@@ -86,7 +86,8 @@ module _ (inside : ℕ → Type 0) where
       unfolding runOf start
       run-same fault budget = after-same fault (at (start entry) going) here budget .0
 
-      below-same : (budget value : ℕ) (reference : List ℕ) (k : ℕ) → scoreBelow s entry budget value reference k ≡ scoreBelow s′ entry budget value reference k
+      below-same : (budget value : ℕ) (reference : List ℕ) (k : ℕ)
+          → scoreBelow s entry budget value reference k ≡ scoreBelow s′ entry budget value reference k
       unfolding scoreBelow classAt
       below-same budget value reference zero = refl
       below-same budget value reference (suc k) = rw (run-same (Inverted k) budget, below-same budget value reference k)
@@ -116,10 +117,14 @@ module _ (registers nodes entry : ℕ) (table table′ inputs : List ℕ) (same 
         closed = λ n t h among. targets-inside registers nodes (nodeAt table n) (runnable-facts registers nodes entry table accepted .node-in n h) t among;
       }
 
+  entry-below : runnableCheck registers nodes entry table ≡ given tt → below entry
+  entry-below accepted = runnable-facts registers nodes entry table accepted .entry-in
+
   runs-same : runnableCheck registers nodes entry table ≡ given tt → (room : ℕ) (fault : Fault) (budget : ℕ)
-      → runOf (record { graph = nodeAt table; inputs = inputs; room = room }) fault entry budget ≡ runOf (record { graph = nodeAt table′; inputs = inputs; room = room }) fault entry budget
+      → runOf (record { graph = nodeAt table; inputs = inputs; room = room }) fault entry budget
+      ≡ runOf (record { graph = nodeAt table′; inputs = inputs; room = room }) fault entry budget
   runs-same accepted room fault budget =
-      run-same below (nodeAt table) (nodeAt table′) (tables-alike accepted) inputs room entry (runnable-facts registers nodes entry table accepted .entry-in) fault budget
+      run-same below (nodeAt table) (nodeAt table′) (tables-alike accepted) inputs room entry (entry-below accepted) fault budget
 
   -- get the same answer of `run`
   pub run-answer-same : (room budget : ℕ) (fault : Fault)
@@ -142,7 +147,7 @@ module _ (registers nodes entry : ℕ) (table table′ inputs : List ℕ) (same 
   campaign-same first second budget =
       rw (← runnable-same nodes table table′ same registers entry)
       (then-same (runnableCheck registers nodes entry table) _ _ λ _ accepted.
-      rw (score-same below (nodeAt table) (nodeAt table′) (tables-alike accepted) inputs first entry (runnable-facts registers nodes entry table accepted .entry-in) budget))
+      rw (score-same below (nodeAt table) (nodeAt table′) (tables-alike accepted) inputs first entry (entry-below accepted) budget))
 
   -- an accepted campaign is one over an accepted graph
   campaign-accepted : (first second budget : ℕ) (score : Score) → campaignAnswer registers nodes entry table inputs first second budget ≡ given score

@@ -46,7 +46,8 @@ module _ (bytes : List ℕ) where
     unfolding runProgram runPrint
     run-cut = by (settingsOf cells)
       where
-        by-fault : (choice : Choice) (hardened : Bool) (budget room : ℕ) → withFault cells choice hardened budget room front ≡ withFault cells choice hardened budget room bytes
+        by-fault : (choice : Choice) (hardened : Bool) (budget room : ℕ)
+            → withFault cells choice hardened budget room front ≡ withFault cells choice hardened budget room bytes
         by-fault (Chosen fault) hardened budget room = ap (withWords cells 4 (wordsIn cells 4)) (fun-ext (λ inputs. rw (graph-cut hardened)))
         by-fault Other hardened budget room = refl
 

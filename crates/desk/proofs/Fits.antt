@@ -91,7 +91,13 @@ run-fits : (outcome : Outcome) (s : State) (events : List ℕ) → length (s .re
 unfolding runText
 run-fits outcome s events many registers few words =
     simp length-append
-    (omega (arith, outcome-length outcome, counts-length (s .node) (s .steps) (s .branches) (s .reads), words-length events words, words-length (s .registers) registers))
+    (omega (
+      arith,
+      outcome-length outcome,
+      counts-length (s .node) (s .steps) (s .branches) (s .reads),
+      words-length events words,
+      words-length (s .registers) registers,
+    ))
 
 -- a row has seven numbers, six of them words
 row-length : (table : List ℕ) (n : ℕ) → AllWords table → length (rowLine table n) ≤ 87
@@ -285,7 +291,8 @@ module _ (cells bytes : List ℕ) where
     where
       by : (settings : Settings) → PrintFits (scoreWith cells settings bytes)
       by (Ready hardened budget room) =
-          words-fit cells 3 (wordsIn cells 3) (λ inputs. scorePrint hardened budget room inputs bytes) (λ inputs _. score-print-fits hardened budget room inputs bytes)
+          words-fit cells 3 (wordsIn cells 3) (λ inputs. scorePrint hardened budget room inputs bytes)
+          (λ inputs _. score-print-fits hardened budget room inputs bytes)
       by (Wrong wanted) = complaint-fits wanted
 
 -- ---- nothing is cut
@@ -297,7 +304,8 @@ shown-whole {before} {after} lent fits (printed {text = text} {size = size} w) =
 shown-whole {before} {after} lent fits (complained {text = text} {size = size} w) = ap complaint (wrote-fits before after size text (omega arith) w)
 
 -- What `hlist` prints of its text is the whole listing, or the whole line of a refusal.
-pub list-whole : (bytes before after : List ℕ) (size : ℕ) → textBytes ≤ length before → Wrote before 0 (listText bytes) after size → take size after ≡ listText bytes
+pub list-whole : (bytes before after : List ℕ) (size : ℕ) → textBytes ≤ length before → Wrote before 0 (listText bytes) after size
+    → take size after ≡ listText bytes
 list-whole bytes before after size lent w = wrote-fits before after size (listText bytes) (omega (arith, list-fits bytes)) w
 
 -- What `hrun` prints is all that is defined for its arguments and its input.

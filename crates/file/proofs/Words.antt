@@ -31,7 +31,8 @@ cell-word bytes registers nodes role at r c = by (stands role) (c .is)
     by true e = number-given bytes at e .small
     by false e = omega (arith, ap valueIn e)
 
-in-order-words : {bytes : List ℕ} {registers nodes left i kind at next : ℕ} {words : List ℕ} → InOrder bytes registers nodes left i kind at words next → AllWords words
+in-order-words : {bytes : List ℕ} {registers nodes left i kind at next : ℕ} {words : List ℕ} →
+    InOrder bytes registers nodes left i kind at words next → AllWords words
 in-order-words none = tt
 in-order-words (more cell rest) = (cell-word _ _ _ _ _ _ cell, in-order-words rest)
 
@@ -40,5 +41,6 @@ unfolding readTable over
 read-words bytes table all = by (contentsOf bytes (length table)) (contents-law bytes (length table))
   where
     by : (a : Answer Contents) → Of (Accepted bytes (length table)) Refusal a → AllWords (written a (λ c. over (c .words) table) table)
-    by (given c) of = words-append (c .words) (drop (length (c .words)) table) (in-order-words (value-of of .words)) (words-drop (length (c .words)) table all)
+    by (given c) of =
+        words-append (c .words) (drop (length (c .words)) table) (in-order-words (value-of of .words)) (words-drop (length (c .words)) table all)
     by (refused number place) of = all

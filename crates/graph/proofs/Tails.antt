@@ -53,13 +53,21 @@ module _ (nodes : ℕ) (table table′ : List ℕ) (same : take (6 * nodes) tabl
   pub node-same : (n : ℕ) → n < nodes → nodeAt table n ≡ nodeAt table′ n
   unfolding nodeAt
   node-same n h =
-      rw (word-same (6 * n) (omega arith), word-same (6 * n + 1) (omega arith), word-same (6 * n + 2) (omega arith), word-same (6 * n + 3) (omega arith), word-same (6 * n + 4) (omega arith), word-same (6 * n + 5) (omega arith))
+      rw (
+        word-same (6 * n) (omega arith),
+        word-same (6 * n + 1) (omega arith),
+        word-same (6 * n + 2) (omega arith),
+        word-same (6 * n + 3) (omega arith),
+        word-same (6 * n + 4) (omega arith),
+        word-same (6 * n + 5) (omega arith),
+      )
 
   fault-same : (kinds registers i : ℕ) → i < 6 * nodes → faultAt kinds registers nodes table i ≡ faultAt kinds registers nodes table′ i
   unfolding faultAt
   fault-same kinds registers i h = rw (word-same (i / 6 * 6) (omega arith), word-same i h)
 
-  words-same : (kinds registers left i : ℕ) → i + left ≤ 6 * nodes → wordsFrom kinds registers nodes table left i ≡ wordsFrom kinds registers nodes table′ left i
+  words-same : (kinds registers left i : ℕ) → i + left ≤ 6 * nodes
+      → wordsFrom kinds registers nodes table left i ≡ wordsFrom kinds registers nodes table′ left i
   unfolding wordsFrom
   words-same kinds registers zero i h = refl
   words-same kinds registers (suc left) i h =

@@ -98,7 +98,10 @@ module _ (registers nodes entry : ℕ) (table table′ : List ℕ) (same : take 
   pub harden-same : (room : ℕ) → hardenAnswer registers nodes entry table room ≡ hardenAnswer registers nodes entry table′ room
   unfolding hardenAnswer sourceOf
   harden-same room =
-      rw (source-same nodes table table′ same registers entry, count-same (nodeAt table) (nodeAt table′) nodes entry (node-same nodes table table′ same) onePlusRank registers)
+      rw (
+        source-same nodes table table′ same registers entry,
+        count-same (nodeAt table) (nodeAt table′) nodes entry (node-same nodes table table′ same) onePlusRank registers,
+      )
 
   -- and leave the same output
   pub output-same : (out : List ℕ) → hardenOutput registers nodes entry table out ≡ hardenOutput registers nodes entry table′ out

@@ -103,10 +103,11 @@ module _ (s : Source) (ok : SourceGraph (s .registers) (s .nodes) (s .entry) (s 
   source-rows-words zero h = tt
   source-rows-words (suc n) h =
       let row = ownRow (groupAt s n) (crossing s n) (s .graph n) in
+      let small-group : groupAt s n < 4096 = omega (arith, ok .few-nodes, group-bound s n) in
       rw (table-append (sourceRows s n) (row ∷ []))
       (words-append (tableOf (sourceRows s n)) (tableOf (row ∷ [])) (source-rows-words n (omega arith))
       (rows-words (row ∷ [])
-      (own-words (s .registers) (s .nodes) (groupAt s n) (crossing s n) (s .graph n) (omega (arith, ok .few-nodes, group-bound s n)) (ok .few-nodes) (ok .node-in n h) (held n h), tt)))
+      (own-words (s .registers) (s .nodes) (groupAt s n) (crossing s n) (s .graph n) small-group (ok .few-nodes) (ok .node-in n h) (held n h), tt)))
 
   group-rows-words : (n : ℕ) → n ≤ s .nodes → AllWords (tableOf (groupRows s n))
   unfolding groupRows

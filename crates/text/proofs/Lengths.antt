@@ -40,7 +40,8 @@ unfolding decimal
 word-length w h = digits-below 19 9 w (omega arith)
 
 -- one space and the digits of a word more
-spaced-more : (most w : ℕ) (ws : List ℕ) → length (decimal w) ≤ most → length (spaced ws) ≤ suc most * length ws → length (spaced (w ∷ ws)) ≤ suc most * length (w ∷ ws)
+spaced-more : (most w : ℕ) (ws : List ℕ) → length (decimal w) ≤ most → length (spaced ws) ≤ suc most * length ws
+    → length (spaced (w ∷ ws)) ≤ suc most * length (w ∷ ws)
 unfolding spaced
 spaced-more most w ws h rest =
     omega (arith, length-append (32 ∷ decimal w) (spaced ws), mul-suc (suc most) (length ws))

@@ -58,11 +58,13 @@ either true b h = inl refl
 either false b h = inr h
 
 -- two ways to go on that agree at the value that is given
-pub then-same : {A B : Type 0} (answer : Answer A) (f g : A → Answer B) → ((a : A) → answer ≡ given a → f a ≡ g a) → andThen answer f ≡ andThen answer g
+pub then-same : {A B : Type 0} (answer : Answer A) (f g : A → Answer B) → ((a : A) → answer ≡ given a → f a ≡ g a) →
+    andThen answer f ≡ andThen answer g
 then-same (given a) f g h = h a refl
 then-same (refused number place) f g h = refl
 
 -- two contents of a buffer that agree at the value that is given
-pub written-same : {A B : Type 0} (answer : Answer A) (f g : A → B) (before : B) → ((a : A) → answer ≡ given a → f a ≡ g a) → written answer f before ≡ written answer g before
+pub written-same : {A B : Type 0} (answer : Answer A) (f g : A → B) (before : B) → ((a : A) → answer ≡ given a → f a ≡ g a) →
+    written answer f before ≡ written answer g before
 written-same (given a) f g before h = h a refl
 written-same (refused number place) f g before h = refl

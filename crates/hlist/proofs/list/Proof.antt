@@ -12,7 +12,10 @@ same-length : tie.Need-same-length
 same-length c = search needs
 
 returns : tie.Need-returns
-returns c = (wrote-inside _ _ _ _ _ (c .before .before .list .ensures), list-whole _ _ _ _ (c .before .before .before .before .before .before .pre) (c .before .before .list .ensures))
+returns c = (
+  wrote-inside _ _ _ _ _ (c .before .before .list .ensures),
+  list-whole _ _ _ _ (c .before .before .before .before .before .before .pre) (c .before .before .list .ensures),
+)
 
 pub list-spec : {M : Type 1} → statement M
 list-spec = tie.close (tie.spec list-requires same-length returns)
