@@ -13,3 +13,5 @@ pub mod Asides
 pub mod Campaigned
 pub mod Signed
 pub mod Accepted
+pub mod Tails
+pub mod Held

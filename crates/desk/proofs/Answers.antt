@@ -201,7 +201,7 @@ room-by (given tt) true n room h k f is e =
 room-by (given tt) false n room h k f is e = let z : _≡_ {A = ℕ} 0 1 = cc in absurd (omega arith)
 room-by (refused number place) fits n room h k f is e = let z : _≡_ {A = ℕ} 0 1 = cc in absurd (omega arith)
 
-harden-room : (registers nodes entry : ℕ) (table : List ℕ) (room : ℕ) (k : Header) → hardenAnswer registers nodes entry table room ≡ given k → 6 * k .nodes ≤ room
+pub harden-room : (registers nodes entry : ℕ) (table : List ℕ) (room : ℕ) (k : Header) → hardenAnswer registers nodes entry table room ≡ given k → 6 * k .nodes ≤ room
 unfolding hardenAnswer
 harden-room registers nodes entry table room k e =
     room-by (sourceCheck registers nodes entry table) (leb (6 * hardenedCount (sourceOf registers nodes entry table)) room)

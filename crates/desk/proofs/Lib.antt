@@ -1,6 +1,8 @@
 -- Laws of the arguments, of the texts and of what they are made of.
 mod Answers
 mod Cells
+pub mod Cuts
+pub mod Fits
 pub mod Printing
 mod Rows
 mod Shows

@@ -6,13 +6,7 @@ use Prim.Native.Nat.{ℕ, _≤_}
 use lib.ListN.{length}
 pub use Rattle.text.proofs.Writing.{wrote-inside}
 use Rattle.desk.specs.declared.Printed.{Printed}
-use Rattle.desk.specs.declared.Printed.the-variants.{Output, Complaint}
-use Rattle.desk.specs.Programs.{Print, Shown, printed, complained}
-
--- the size that a program's answer tells
-abbrev pub sizeOf : Printed → ℕ
-sizeOf (Output size) = size
-sizeOf (Complaint size) = size
+use Rattle.desk.specs.Programs.{Print, sizeOf, Shown, printed, complained}
 
 shown-size : {l m : List ℕ} {print : Print} {answer : Printed} → Shown l print m answer → sizeOf answer ≤ length m
 shown-size {l} {m} (printed {text = text} {size = size} w) = wrote-inside l m 0 size text w

@@ -3,7 +3,7 @@
 use Prim.Native.Nat.{ℕ, _+_, _-_, _*_}
 use mathlib.Core.Bool.{Bool, true, false, cond}
 use mathlib.Core.List.{List, [], _∷_, _++_}
-use lib.ListN.{length, replicate}
+use lib.ListN.{length, take, replicate}
 use lib.Dec.{eqb, ltb, leb}
 use Rattle.words.specs.Answer.{Answer, given, refused, andThen}
 use Rattle.graph.specs.declared.Header.{Header}
@@ -121,6 +121,19 @@ scoreWith cells (Wrong wanted) bytes = complaint (complaintLine wanted)
 
 unfoldable pub scoreProgram : List ℕ → List ℕ → Print
 scoreProgram cells bytes = scoreWith cells (settingsOf cells) bytes
+
+-- the bytes of text that a program lends
+abbrev pub textBytes : ℕ
+textBytes = 196608
+
+-- how long the text is that a program's answer tells of, and what is printed of it, for each case
+abbrev pub sizeOf : Printed → ℕ
+sizeOf (Output size) = size
+sizeOf (Complaint size) = size
+
+abbrev pub printOf : Printed → List ℕ → Print
+printOf (Output size) text = output (take size text)
+printOf (Complaint size) text = complaint (take size text)
 
 -- what a program leaves in its text, and how long it says that is, for each case
 pub data Shown (before : List ℕ) : Print → List ℕ → Printed → Type 0 where

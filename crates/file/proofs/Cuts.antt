@@ -8,8 +8,8 @@ use lib.ListN.{length, take}
 use lib.Seq.{length-take-le}
 use lib.Dec.{leb}
 use borrow.Author.Tests.{lt-leb}
-use Rattle.words.specs.Answer.{Answer, given, refused, demand, andThen}
-use Rattle.words.proofs.Answers.{when-given}
+use Rattle.words.specs.Answer.{demand}
+use Rattle.words.proofs.Answers.{when-given, then-same}
 use Rattle.words.proofs.Numbers.{number-take}
 use Rattle.graph.specs.declared.Role.{Role}
 use Rattle.graph.specs.declared.Role.the-variants.{Target}
@@ -18,11 +18,6 @@ use Rattle.file.specs.Reading.{before, kindAfter, countAt, fieldAt, cell
 use Rattle.file.proofs.Sizes.{used, used-role, reach, reach-most, Here, here-first, here-next}
 use Rattle.file.proofs.Refusals.{count-law, field-law, cell-law}
 use Rattle.file.proofs.InOrder.{cells-law, in-order-end}
-
--- two ways to go on that agree at the value that is given
-then-same : {A B : Type 0} (answer : Answer A) (f g : A → Answer B) → ((a : A) → answer ≡ given a → f a ≡ g a) → andThen answer f ≡ andThen answer g
-then-same (given a) f g h = h a refl
-then-same (refused number place) f g h = refl
 
 module _ (bytes : List ℕ) where
   abbrev front : List ℕ

@@ -11,4 +11,5 @@ pub mod Written
 pub mod Runnable
 pub mod Reader
 pub mod Cuts
+pub mod Words
 pub mod Vectors

@@ -14,3 +14,4 @@ pub mod Sources
 pub mod Refusals
 pub mod Facts
 pub mod Unreachable
+pub mod Tails

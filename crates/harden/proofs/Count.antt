@@ -7,20 +7,19 @@ use mathlib.Core.Bool.{Bool, true, false, cond}
 use mathlib.Core.List.{List, [], _∷_}
 use lib.ListN.{length, length-append}
 use Rattle.graph.specs.Nodes.{Node, go, branch, ret, stop, wordsOf, const, op, input, output, register, constant}
-use Rattle.harden.specs.Hardened.{Source, crossing, isLeader, extra, isBranch, branchCount, crossingCount, extraBelow, groupOf, groupAt, groupRows, sourceRows, hardenedRows, hardenedCount, hardenedTable, tableOf, sign}
-use Rattle.harden.specs.Blocks.{crosses}
+use Rattle.harden.specs.Hardened.{Source, crossing, extra, isBranch, branchCount, crossingCount, extraBelow, groupOf, groupAt, groupRows, sourceRows, hardenedRows, hardenedCount, hardenedTable, tableOf, sign}
 
 -- a node's extra nodes: seven where it is a branch, three where its edge crosses
-extra-of : (leads : ℕ → Bool) (node : Node) →
-    extra (crosses leads node) node ≡ 7 * cond (isBranch node) 1 0 + 3 * cond (crosses leads node) 1 0
-extra-of leads (branch c a b t f) = refl
-extra-of leads (go action next) = by (leads next)
+extra-of : (s : Source) (n : ℕ) (node : Node) → s .graph n ≡ node → extra (crossing s n) node ≡ 7 * cond (isBranch node) 1 0 + 3 * cond (crossing s n) 1 0
+unfolding crossing
+extra-of s n (branch c a b t f) is = rw is
+extra-of s n (go action next) is = by (crossing s n)
   where
     by : (crossed : Bool) → cond crossed 3 0 ≡ 7 * 0 + 3 * cond crossed 1 0
     by true = refl
     by false = refl
-extra-of leads (ret a) = refl
-extra-of leads stop = refl
+extra-of s n (ret a) is = rw is
+extra-of s n stop is = rw is
 
 pub at-most-seven : (crossed : Bool) (node : Node) → extra crossed node ≤ 7
 at-most-seven crossed (branch c a b t f) = omega arith
@@ -30,9 +29,9 @@ at-most-seven crossed (ret a) = omega arith
 at-most-seven crossed stop = omega arith
 
 pub extra-counted : (s : Source) (n : ℕ) → extraBelow s n ≡ 7 * branchCount s n + 3 * crossingCount s n
-unfolding extraBelow branchCount crossingCount crossing
+unfolding extraBelow branchCount crossingCount
 extra-counted s zero = refl
-extra-counted s (suc n) = omega (arith, extra-counted s n, extra-of (isLeader s) (s .graph n))
+extra-counted s (suc n) = omega (arith, extra-counted s n, extra-of s n (s .graph n) refl)
 
 pub extra-bound : (s : Source) (n : ℕ) → extraBelow s n ≤ 7 * n
 unfolding extraBelow
@@ -53,20 +52,21 @@ unfolding hardenedCount
 count-bound s few = omega (arith, group-bound s (s .nodes))
 
 -- a branch has no crossing edge
-branch-crosses : (leads : ℕ → Bool) (node : Node) → isBranch node ≡ true → crosses leads node ≡ false
-branch-crosses leads (branch c a b t f) h = refl
-branch-crosses leads (go action next) h = cc
-branch-crosses leads (ret a) h = refl
-branch-crosses leads stop h = refl
+branch-crosses : (s : Source) (n : ℕ) (node : Node) → s .graph n ≡ node → isBranch node ≡ true → crossing s n ≡ false
+unfolding crossing
+branch-crosses s n (branch c a b t f) is h = rw is
+branch-crosses s n (go action next) is h = cc
+branch-crosses s n (ret a) is h = rw is
+branch-crosses s n stop is h = rw is
 
 module _ (s : Source) where
   all-branches : (n : ℕ) → ((k : ℕ) → k < n → isBranch (s .graph k) ≡ true) → (branchCount s n ≡ n) × (crossingCount s n ≡ 0)
-  unfolding branchCount crossingCount crossing
+  unfolding branchCount crossingCount
   all-branches zero h = (refl, refl)
   all-branches (suc n) h =
       let below : (branchCount s n ≡ n) × (crossingCount s n ≡ 0) = all-branches n (λ k l. h k (omega arith)) in
       let at : isBranch (s .graph n) ≡ true = h n (omega arith) in
-      (rw at (omega arith), rw (branch-crosses (isLeader s) (s .graph n) at) (omega arith))
+      (rw at (omega arith), rw (branch-crosses s n (s .graph n) refl at) (omega arith))
 
 -- 256 nodes, all branches
 pub largest : (s : Source) → s .nodes ≡ 256 → ((k : ℕ) → k < s .nodes → isBranch (s .graph k) ≡ true) → hardenedCount s ≡ 2050

@@ -14,3 +14,5 @@ pub mod Ranks
 pub mod Crossings
 pub mod Runnable
 pub mod Listing
+pub mod Tails
+pub mod Words

@@ -81,6 +81,17 @@ module _ (graph : ℕ → Node) where
       by true earlier = h
       by false earlier = earlier
 
+module _ (graph : ℕ → Node) (nodes entry : ℕ) (some : 0 < nodes) where
+  pub head-in : (steps n : ℕ) → n < nodes → headIn graph nodes entry steps n < nodes
+  unfolding headIn
+  head-in zero n h = h
+  head-in (suc steps) n h = by (leader graph nodes entry n) (head-in steps (predecessor graph nodes n) (predecessor-in graph nodes nodes n some (omega arith)))
+    where
+      by : (test : Bool) → headIn graph nodes entry steps (predecessor graph nodes n) < nodes →
+          cond test n (headIn graph nodes entry steps (predecessor graph nodes n)) < nodes
+      by true further = h
+      by false further = further
+
 module _ (graph : ℕ → Node) (nodes entry : ℕ) (grades : List ℕ) (few : nodes ≤ 256) (some : 0 < nodes)
     (right : (n : ℕ) → n < nodes → leads grades n ≡ leader graph nodes entry n) where
   heads : (steps n : ℕ) → n < nodes → headBy grades (precedersBelow graph zeros nodes) steps n ≡ headIn graph nodes entry steps n
@@ -94,23 +105,13 @@ module _ (graph : ℕ → Node) (nodes entry : ℕ) (grades : List ℕ) (few : n
   ranks zero h = refl
   ranks (suc n) h = rw (ranks n (omega arith), right n h)
 
-  pub head-in : (steps n : ℕ) → n < nodes → headIn graph nodes entry steps n < nodes
-  unfolding headIn
-  head-in zero n h = h
-  head-in (suc steps) n h = by (leader graph nodes entry n) (head-in steps (predecessor graph nodes n) (predecessor-in graph nodes nodes n some (omega arith)))
-    where
-      by : (test : Bool) → headIn graph nodes entry steps (predecessor graph nodes n) < nodes →
-          cond test n (headIn graph nodes entry steps (predecessor graph nodes n)) < nodes
-      by true further = h
-      by false further = further
-
   -- the signatures that the passes find
   pub signatures-found : (plan : Plan) (n : ℕ) → n < nodes →
       signed (blockSignatures plan graph grades nodes) n ≡ signature plan graph nodes entry n
   unfolding blockSignatures signature blockHead
   signatures-found plan n h =
       let head = headIn graph nodes entry nodes n in
-      let low : head < nodes = head-in nodes n h in
+      let low : head < nodes = head-in graph nodes entry some nodes n h in
       filled-at (asBlock grades (precedersBelow graph zeros nodes) (filled (asLeader plan grades) zeros nodes) nodes) zeros nodes n (rw zeros-length few) h
       ∙ ap (λ (k : ℕ). getD (filled (asLeader plan grades) zeros nodes) k 0) (heads nodes n h)
       ∙ filled-at (asLeader plan grades) zeros nodes head (rw zeros-length few) low

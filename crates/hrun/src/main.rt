@@ -1,8 +1,20 @@
 // Runs a graph on standard input once, undisturbed or with one branch inverted, and prints how it ended.
+ghost use Prim.Native.Nat.{_≤_};
+ghost use mathlib.Core.Path.{_≡_};
+ghost use lib.ListN.{length};
+ghost use Rattle.desk.specs.Programs.{sizeOf, printOf, runProgram, textBytes};
 use desk::Printed;
 use libc::STDERR_FILENO;
 use libc::STDIN_FILENO;
 use libc::STDOUT_FILENO;
+
+// The whole text for the arguments and a file's bytes: one of this size cuts nothing.
+fn run(cells: &[u8], bytes: &[u8], text: &mut [u8]) -> Printed
+    requires { ⌜ textBytes ≤ length (now text) ⌝ }
+    ensures { λ r. ⌜ (sizeOf r ≤ length (now (text .exit))) × (printOf r (now (text .exit)) ≡ runProgram (now (cells .entry)) (now (bytes .entry))) ⌝ }
+{
+    desk::run(cells, bytes, text)
+}
 
 fn main() {
     let mut cells = console::cell_space();
@@ -10,7 +22,7 @@ fn main() {
     let mut file = console::file_space();
     let size = io::read_full(STDIN_FILENO, &mut file);
     let mut text = console::text_space();
-    let answer = desk::run(&cells[..used], &file[..size], &mut text);
+    let answer = run(&cells[..used], &file[..size], &mut text);
     match answer {
         Printed::Output(end) => {
             io::write_all(STDOUT_FILENO, &text[..end]);

@@ -13,12 +13,12 @@ use Rattle.text.specs.Decimals.{digitsIn, decimal, spaced, valueFrom, va
 use Rattle.text.specs.Places.{Wrote, placeAfter}
 use Rattle.text.proofs.Writing.{wrote-then, wrote-nil}
 
-last-only : (more n : ℕ) → n < 10 → digitsIn more n ≡ (48 + n % 10) ∷ []
+pub last-only : (more n : ℕ) → n < 10 → digitsIn more n ≡ (48 + n % 10) ∷ []
 unfolding digitsIn
 last-only zero n h = refl
 last-only (suc more) n h = rw (lt-ltb n 10 h)
 
-front-first : (more n : ℕ) → 10 ≤ n → digitsIn (suc more) n ≡ digitsIn more (n / 10) ++ ((48 + n % 10) ∷ [])
+pub front-first : (more n : ℕ) → 10 ≤ n → digitsIn (suc more) n ≡ digitsIn more (n / 10) ++ ((48 + n % 10) ∷ [])
 unfolding digitsIn
 front-first more n h = rw (le-ltb n 10 h)
 

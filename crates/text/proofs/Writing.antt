@@ -8,12 +8,12 @@ use native.Mathlib.Decide.{decLe}
 use native.Mathlib.Omega.{arith}
 use mathlib.Core.Bool.{cond}
 use mathlib.Core.List.{List, [], _∷_, _++_}
-use lib.ListN.{length, take, getD, set, length-append}
-use lib.Seq.{sets, set-out, take-suc, take-all}
+use lib.ListN.{length, take, drop, getD, set, length-append}
+use lib.Seq.{sets, set-out, take-suc, take-all, take-at}
 use lib.Dec.{leb}
 use borrow.Author.Tests.{le-leb, lt-leb}
-use Rattle.words.specs.Buffer.{put}
-use Rattle.words.proofs.Puts.{put-nil, put-one, put-put, length-put}
+use Rattle.words.specs.Buffer.{over, put}
+use Rattle.words.proofs.Puts.{put-nil, put-one, put-put, put-over, length-put}
 use Rattle.text.specs.Places.{placeAfter, Wrote}
 
 -- the place where the text fits, and where it does not
@@ -135,3 +135,11 @@ pub wrote-inside : (l m : List ℕ) (at p : ℕ) (xs : List ℕ) → Wrote l at 
 wrote-inside l m at p xs w =
     let inside : placeAfter (length l) at (length xs) ≤ length l = place-inside (length l) at (length xs) in
     omega (arith, w .place-is, wrote-length l m at p xs w)
+
+-- a text that fits stands in the buffer whole, up to the place after it
+pub wrote-fits : (l m : List ℕ) (p : ℕ) (text : List ℕ) → length text ≤ length l → Wrote l 0 text m p → take p m ≡ text
+unfolding over
+wrote-fits l m p text h w =
+    let fit : 0 + length text ≤ length l = omega arith in
+    let end : length text ≡ p = omega (arith, w .place-is, fits-place (length l) 0 (length text) fit) in
+    ap (take p) (w .buffer-is ∙ put-over l text h) ∙ take-at text (drop (length text) l) p end

@@ -4,7 +4,7 @@ use mathlib.Core.Path.{_≡_, refl, sym, subst}
 use mathlib.Core.Bool.{Bool, true, false, cond, _||_, _&&_, true≢false}
 use mathlib.Core.Logic.{_⊎_, inl, inr}
 use Prim.Native.Nat.{ℕ}
-use Rattle.words.specs.Answer.{Answer, given, refused, demand, andThen}
+use Rattle.words.specs.Answer.{Answer, given, refused, demand, andThen, written}
 
 pub data Of {A : Type 0} (P : A → Type 0) (Q : ℕ → ℕ → Type 0) : Answer A → Type 0 where
   of-given : {a : A} → P a → Of P Q (given a)
@@ -56,3 +56,15 @@ both false b h = (h, absurd (true≢false (sym h)))
 pub either : (a b : Bool) → (a || b) ≡ true → (a ≡ true) ⊎ (b ≡ true)
 either true b h = inl refl
 either false b h = inr h
+
+-- two ways to go on that agree at the value that is given
+pub then-same : {A B : Type 0} (answer : Answer A) (f g : A → Answer B) → ((a : A) → answer ≡ given a → f a ≡ g a) →
+    andThen answer f ≡ andThen answer g
+then-same (given a) f g h = h a refl
+then-same (refused number place) f g h = refl
+
+-- two contents of a buffer that agree at the value that is given
+pub written-same : {A B : Type 0} (answer : Answer A) (f g : A → B) (before : B) → ((a : A) → answer ≡ given a → f a ≡ g a) →
+    written answer f before ≡ written answer g before
+written-same (given a) f g before h = h a refl
+written-same (refused number place) f g before h = refl

@@ -3,5 +3,6 @@ pub mod Puts
 pub mod Arms
 pub mod Ways
 pub mod Answers
+pub mod AllWords
 pub mod Numbers
 pub mod Vectors

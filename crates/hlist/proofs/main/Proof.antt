@@ -1,8 +1,7 @@
--- `hlist::main` is safe: what it prints lies in its text.
+-- `hlist::main` is safe, and its text is as large as `list` asks: what it prints is the whole answer.
 -- Assumes nothing.
 use mathlib.Core.Path.{sym}
 use lib.Seq.{length-take-le}
-use Rattle.desk.proofs.Printing.{wrote-inside}
 use borrow.Author.Needs.{needs}
 use Rattle.hlist.proofs.main.Statement.{statement}
 use Rattle.hlist.proofs.main.Tie as tie
@@ -32,10 +31,10 @@ list-requires : tie.Need-list-requires
 list-requires c κs = search needs
 
 array-share-prefix-text : tie.Need-array-share-prefix-text
-array-share-prefix-text c = wrote-inside _ _ _ _ _ (c .before .list .ensures)
+array-share-prefix-text c = c .before .list .ensures .0
 
 slice-aggregate-write-all : tie.Need-slice-aggregate-write-all
-slice-aggregate-write-all c = sym (length-take-le _ (c .before .before .list .last .1 .0) (wrote-inside _ _ _ _ _ (c .before .before .list .ensures)))
+slice-aggregate-write-all c = sym (length-take-le _ (c .before .before .list .last .1 .0) (c .before .before .list .ensures .0))
 
 write-all-requires : tie.Need-write-all-requires
 write-all-requires c κs = search needs
