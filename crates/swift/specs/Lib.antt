@@ -1,3 +1,3 @@
 pub mod Demand
 pub mod Agreed
-pub mod Promises
+pub mod OneAnswer
