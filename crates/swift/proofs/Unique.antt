@@ -1,8 +1,8 @@
 -- Document 01, "What the contracts must shut out": the contract of each public function leaves one answer, and one content of each
 -- buffer lent. Each theorem is of the checker's own statement of that contract, `CRATE.PATH.Reads.Post` over the signature
 -- `CRATE.PATH.ended`. Where an answer is an enum, its meaning can be taken back, so two answers of one meaning are one.
--- To add a public function: the crate's `use Rattle.CRATE.proofs as CRATE`, and a theorem `unique-CRATE-PATH` (`.` and `_` become
--- `-`) with its statement on that one line; tests/contracts looks for both.
+-- To add a public function: a theorem `unique-CRATE-PATH` (`.` and `_` become `-`) with its statement on that one line. A new crate
+-- goes among those that `swift` uses in crates.txt, and has its line `use Rattle.CRATE.proofs as CRATE`. tests/contracts looks for both.
 -- Assumes nothing.
 use Prim.Native.Nat.{ℕ}
 use mathlib.Core.Path.{_≡_, refl, sym, ap, _∙_}
