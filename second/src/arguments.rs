@@ -1,5 +1,5 @@
 //! The command lines of `hrun` and `hscore`: what each argument may be, and
-//! the one line that says which was wrong.
+//! the one line that says which was wrong, both as the guide has them.
 
 pub const LAST_ROOM: u32 = 16_384;
 pub const LAST_INPUT: usize = 4_096;
@@ -25,30 +25,24 @@ type Parsed<T> = Result<T, String>;
 
 /// MODE BUDGET ROOM FAULT [WORD ..]
 pub fn run_arguments(words: &[String]) -> Parsed<Arguments> {
-    let mut arguments = score_arguments_from(words, 4)?;
+    let mut arguments = settings(words)?;
     arguments.fault = fault(words.get(3))?;
-    arguments.input = input(&words[4..])?;
+    arguments.input = input(words, 4)?;
     Ok(arguments)
 }
 
 /// MODE BUDGET ROOM [WORD ..]
 pub fn score_arguments(words: &[String]) -> Parsed<Arguments> {
-    let mut arguments = score_arguments_from(words, 3)?;
-    arguments.input = input(&words[3..])?;
+    let mut arguments = settings(words)?;
+    arguments.input = input(words, 3)?;
     Ok(arguments)
 }
 
 /// The three arguments that both programs begin with.
-fn score_arguments_from(words: &[String], fixed: usize) -> Parsed<Arguments> {
+fn settings(words: &[String]) -> Parsed<Arguments> {
     let mode = mode(words.first())?;
-    let budget = required("BUDGET", words.get(1), u32::MAX)?;
-    let room = required("ROOM", words.get(2), LAST_ROOM)?;
-    let input_words = words.len().saturating_sub(fixed);
-    if input_words > LAST_INPUT {
-        return Err(format!(
-            "too many WORDs: expected at most {LAST_INPUT}, found {input_words}"
-        ));
-    }
+    let budget = number(words.get(1), 2, "BUDGET", u32::MAX)?;
+    let room = number(words.get(2), 3, "ROOM", LAST_ROOM)?;
     Ok(Arguments {
         mode,
         budget,
@@ -62,50 +56,40 @@ fn mode(word: Option<&String>) -> Parsed<Mode> {
     match word.map(String::as_str) {
         Some("plain") => Ok(Mode::Plain),
         Some("hardened") => Ok(Mode::Hardened),
-        other => Err(format!(
-            "MODE: expected plain or hardened, found {}",
-            found(other)
-        )),
+        _ => expected(1, "MODE, plain or hardened"),
     }
 }
 
 fn fault(word: Option<&String>) -> Parsed<Option<u32>> {
-    let word = word.map(String::as_str);
-    if word == Some("none") {
-        return Ok(None);
-    }
-    match word.and_then(decimal) {
-        Some(place) => Ok(Some(place)),
-        None => Err(format!(
-            "FAULT: expected none or a decimal number up to {}, found {}",
-            u32::MAX,
-            found(word)
-        )),
+    match word.map(String::as_str) {
+        Some("none") => Ok(None),
+        Some(word) if decimal(word).is_some() => Ok(decimal(word)),
+        _ => expected(4, &format!("FAULT, none or a number up to {}", u32::MAX)),
     }
 }
 
-fn input(words: &[String]) -> Parsed<Vec<u32>> {
-    words
-        .iter()
-        .enumerate()
-        .map(|(index, word)| required(&format!("WORD {}", index + 1), Some(word), u32::MAX))
+/// The words behind the fixed arguments. Too many are told of before any of
+/// them is looked at.
+fn input(words: &[String], fixed: usize) -> Parsed<Vec<u32>> {
+    if words.len() > fixed + LAST_INPUT {
+        let first_over = fixed + LAST_INPUT + 1;
+        return expected(first_over, &format!("no more than {LAST_INPUT} words"));
+    }
+    (fixed..words.len())
+        .map(|index| number(words.get(index), index + 1, "WORD", u32::MAX))
         .collect()
 }
 
-fn required(name: &str, word: Option<&String>, last: u32) -> Parsed<u32> {
-    let word = word.map(String::as_str);
-    match word.and_then(decimal) {
+fn number(word: Option<&String>, place: usize, name: &str, last: u32) -> Parsed<u32> {
+    match word.and_then(|word| decimal(word)) {
         Some(value) if value <= last => Ok(value),
-        _ => Err(format!(
-            "{name}: expected a decimal number up to {last}, found {}",
-            found(word)
-        )),
+        _ => expected(place, &format!("{name}, a number up to {last}")),
     }
 }
 
-/// The found word on one line, whatever it holds.
-fn found(word: Option<&str>) -> String {
-    word.map_or("nothing".to_string(), |word| format!("{word:?}"))
+/// The line for a wrong argument, without its end; places count from 1.
+fn expected<T>(place: usize, what: &str) -> Parsed<T> {
+    Err(format!("argument {place}: expected {what}"))
 }
 
 /// One to ten ASCII digits with a value below 2^32; no sign, no blank.

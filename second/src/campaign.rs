@@ -17,6 +17,14 @@ pub struct Score {
     pub unended: u32,
 }
 
+/// One disturbed run beside the reference, each with its event words.
+pub struct Disturbed<'a> {
+    pub reference: &'a Answer,
+    pub expected: &'a [u32],
+    pub answer: &'a Answer,
+    pub events: &'a [u32],
+}
+
 /// Scores a graph; the first buffer keeps the reference events, the second
 /// is all zero afterwards, and a refusal changes neither.
 pub fn campaign(
@@ -26,6 +34,18 @@ pub fn campaign(
     first: &mut [u32],
     second: &mut [u32],
     budget: u32,
+) -> Result<Score, Refusal> {
+    watched_campaign(graph, table, input, [first, second], budget, &mut |_| ())
+}
+
+/// The same, with each disturbed run shown to a watcher.
+pub fn watched_campaign(
+    graph: &Graph,
+    table: &[u32],
+    input: &[u32],
+    [first, second]: [&mut [u32]; 2],
+    budget: u32,
+    watch: &mut dyn FnMut(&Disturbed),
 ) -> Result<Score, Refusal> {
     check_runnable(graph, table)?;
     if budget > LAST_BUDGET {
@@ -44,8 +64,14 @@ pub fn campaign(
     let mut score = Score::default();
     for place in 0..reference.branches {
         let answer = run(graph, table, input, second, budget, Some(place))?;
-        let events = &second[..2 * answer.events as usize];
-        score.count(&reference, &first[..words], &answer, events);
+        let disturbed = Disturbed {
+            reference: &reference,
+            expected: &first[..words],
+            answer: &answer,
+            events: &second[..2 * answer.events as usize],
+        };
+        score.count(&disturbed);
+        watch(&disturbed);
     }
     second.fill(0);
     Ok(score)
@@ -53,12 +79,15 @@ pub fn campaign(
 
 impl Score {
     /// Puts one disturbed run into its class.
-    fn count(&mut self, reference: &Answer, expected: &[u32], answer: &Answer, events: &[u32]) {
+    fn count(&mut self, run: &Disturbed) {
         self.positions += 1;
-        let class = match answer.outcome {
-            Outcome::Caught if expected.starts_with(events) => &mut self.caught,
+        let outcome = run.answer.outcome;
+        let class = match outcome {
+            Outcome::Caught if run.expected.starts_with(run.events) => &mut self.caught,
             Outcome::Caught => &mut self.late,
-            Outcome::Returned(_) if answer.outcome == reference.outcome && events == expected => {
+            Outcome::Returned(_)
+                if outcome == run.reference.outcome && run.events == run.expected =>
+            {
                 &mut self.harmless
             }
             Outcome::Returned(_) | Outcome::Full => &mut self.changed,

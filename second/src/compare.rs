@@ -3,9 +3,9 @@
 
 use crate::demand3;
 use crate::generate::{case, Case, Line};
-use crate::mix::Mix;
-use crate::observe::{Programs, Said, Starter};
-use crate::programs::{hlist, hrun, hscore};
+use crate::mix::{Marks, Mix};
+use crate::observe::{End, Programs, Said, Starter};
+use crate::programs::{hlist, hrun, hscore, hscore_watched};
 use std::sync::atomic::{AtomicU64, Ordering};
 use std::sync::Mutex;
 use std::thread;
@@ -34,6 +34,9 @@ pub struct Tally {
     pub follows: u64,
     pub inversions: u64,
     pub hardened_scores: u64,
+    /// Programs that did not start, or did not answer as any program must.
+    pub broken: u64,
+    pub wanted: u64,
     pub failed: u64,
     pub hung: bool,
     pub mix: Mix,
@@ -41,7 +44,13 @@ pub struct Tally {
 
 impl Tally {
     fn compared(&self) -> u64 {
-        self.listings + self.runs + self.scores + self.bad_arguments + self.tried()
+        self.listings
+            + self.runs
+            + self.scores
+            + self.bad_arguments
+            + self.tried()
+            + self.broken
+            + self.wanted
     }
 
     /// The checks of demand 3.
@@ -58,6 +67,8 @@ impl Tally {
         self.follows += other.follows;
         self.inversions += other.inversions;
         self.hardened_scores += other.hardened_scores;
+        self.broken += other.broken;
+        self.wanted += other.wanted;
         self.failed += other.failed;
         self.hung |= other.hung;
         self.mix.join(&other.mix);
@@ -74,14 +85,16 @@ impl Tally {
         );
         println!(
             "counted: {} listings, {} runs, {} scores and {} bad command lines compared; \
-             for demand 3: {} runs followed, {} inversions, {} hardened scores",
+             for demand 3: {} runs followed, {} inversions, {} hardened scores; \
+             {} sorts that must not be lacking",
             self.listings,
             self.runs,
             self.scores,
             self.bad_arguments,
             self.follows,
             self.inversions,
-            self.hardened_scores
+            self.hardened_scores,
+            self.wanted
         );
         println!(
             "{} passed, {} failed",
@@ -116,47 +129,44 @@ impl<'a> Trial<'a> {
         let case = self.case;
         self.tally.graphs = 1;
         self.tally.mix.graph(&case.file);
-        self.listing();
-        for line in &case.runs {
-            self.answer("hrun", line, hrun(line, &case.file));
-        }
-        for line in &case.scores {
-            self.answer("hscore", line, hscore(line, &case.file));
+        for (program, line) in case.lines() {
+            let expected = expected(case, program, line, &mut self.tally.mix);
+            self.answer(program, line, &expected);
         }
         demand3::try_on(self);
     }
 
-    fn listing(&mut self) {
-        let expected = hlist(&self.case.file);
-        self.answer("hlist", &Vec::new(), Ok(expected));
-    }
-
-    fn answer(&mut self, program: &str, line: &Line, expected: Result<String, String>) {
-        let Some(said) = self.said(program, line) else {
+    fn answer(&mut self, program: &str, line: &Line, expected: &Said) {
+        let Some(said) = self.start(program, line) else {
             return;
         };
-        let agrees = match &expected {
-            Ok(text) => said.output == *text,
-            Err(_) => said.output.is_empty() && is_one_line(&said.errors),
-        };
-        match (&expected, program) {
-            (Err(_), _) => self.tally.bad_arguments += 1,
-            (_, "hlist") => self.tally.listings += 1,
-            (_, "hrun") => self.tally.runs += 1,
+        match program {
+            _ if !expected.errors.is_empty() => self.tally.bad_arguments += 1,
+            "hlist" => self.tally.listings += 1,
+            "hrun" => self.tally.runs += 1,
             _ => self.tally.scores += 1,
         }
-        match &expected {
-            Ok(text) => self.tally.mix.answer(program, text),
-            Err(_) => self.tally.mix.add(&format!("{program}: bad arguments")),
+        if said != *expected {
+            self.fail(program, line, &difference(&said, expected));
         }
-        if !agrees {
-            self.differs(program, line, &said, &expected);
+    }
+
+    /// What a program prints; one that says more than its output, or does not
+    /// end as it must, fails the case.
+    pub fn output(&mut self, program: &str, line: &Line) -> Option<String> {
+        let said = self.start(program, line)?;
+        let expected = Said::answer(&said.output);
+        if said != expected {
+            self.tally.broken += 1;
+            self.fail(program, line, &difference(&said, &expected));
+            return None;
         }
+        Some(said.output)
     }
 
     /// Starts a program; one that cannot be started fails the case, and
     /// after one that hung the case is left.
-    pub fn said(&mut self, program: &str, line: &Line) -> Option<Said> {
+    fn start(&mut self, program: &str, line: &Line) -> Option<Said> {
         if self.tally.hung {
             return None;
         }
@@ -167,42 +177,16 @@ impl<'a> Trial<'a> {
         };
         match self.starter.start(path, line, &self.case.file) {
             Ok(said) => {
-                self.tally.hung = said.ended;
+                self.tally.hung = said.end == End::Hung;
                 Some(said)
             }
             Err(error) => {
                 let message = format!("{} does not start: {error}", path.display());
-                self.tally.listings += 1;
+                self.tally.broken += 1;
                 self.fail(program, line, &message);
                 None
             }
         }
-    }
-
-    fn differs(
-        &mut self,
-        program: &str,
-        line: &Line,
-        said: &Said,
-        expected: &Result<String, String>,
-    ) {
-        let mut message = match expected {
-            Ok(text) => format!(
-                "first difference in line {}\n{}{}",
-                first_difference(&said.output, text),
-                quoted("the given program", &said.output),
-                quoted("the second program", text)
-            ),
-            Err(error) => format!(
-                "expected no output and one line of error, such as: {error}\n{}{}",
-                quoted("output", &said.output),
-                quoted("errors", &said.errors)
-            ),
-        };
-        if said.ended {
-            message = format!("did not end by itself\n{message}");
-        }
-        self.fail(program, line, &message);
     }
 
     /// Records a difference with all that it takes to see it again.
@@ -231,22 +215,66 @@ impl<'a> Trial<'a> {
 
 /// A command line as it is typed; words that are not plain are quoted.
 pub fn spoken(line: &Line) -> String {
-    let plain = |word: &String| !word.is_empty() && word.bytes().all(|b| b.is_ascii_alphanumeric());
     let words: Vec<String> = line
         .iter()
-        .map(|word| {
-            if plain(word) {
-                word.clone()
-            } else {
+        .map(|word| match word {
+            _ if word.chars().any(char::is_control) => format!("$'{}'", word.escape_default()),
+            _ if word.is_empty() || word.bytes().any(|b| !b.is_ascii_alphanumeric()) => {
                 format!("'{word}'")
             }
+            _ => word.clone(),
         })
         .collect();
     words.join(" ")
 }
 
-fn is_one_line(text: &str) -> bool {
-    text.len() > 1 && text.ends_with('\n') && text.lines().count() == 1
+/// What the second program says, taken up in the mix.
+fn expected(case: &Case, program: &str, line: &Line, mix: &mut Mix) -> Said {
+    mix.line(program, line);
+    let mut marks = Marks::default();
+    let answer = match program {
+        "hlist" => Ok(hlist(&case.file)),
+        "hrun" => hrun(line, &case.file),
+        _ => hscore_watched(line, &case.file, &mut |run| marks.see(run)),
+    };
+    mix.marks(&marks);
+    match answer {
+        Ok(text) => {
+            mix.answer(program, &text);
+            if program == "hrun" {
+                mix.run(line, &case.file, &text);
+            }
+            Said::answer(&text)
+        }
+        Err(complaint) => {
+            mix.add(&format!("{program}: bad arguments"));
+            Said::complaint(&complaint)
+        }
+    }
+}
+
+/// In what a program differs from what it should have said.
+pub fn difference(said: &Said, expected: &Said) -> String {
+    let mut message = match said.end {
+        End::Status(0) => String::new(),
+        End::Status(status) => format!("ended with status {status}\n"),
+        End::Signal(signal) => format!("died of signal {signal}\n"),
+        End::Hung => "did not end by itself\n".to_string(),
+    };
+    for (name, said, expected) in [
+        ("output", &said.output, &expected.output),
+        ("standard error", &said.errors, &expected.errors),
+    ] {
+        if said != expected {
+            message += &format!(
+                "{name}: first difference in line {}\n{}{}",
+                first_difference(said, expected),
+                quoted("the given program", said),
+                quoted("the second program", expected)
+            );
+        }
+    }
+    message
 }
 
 fn first_difference(one: &str, other: &str) -> usize {
@@ -273,7 +301,7 @@ pub fn compare(options: &Options) -> bool {
             scope.spawn(|| work(options, began, &next, &total));
         }
     });
-    let total = total.into_inner().expect("no worker failed");
+    let mut total = total.into_inner().expect("no worker failed");
     if total.graphs < options.cases {
         let why = if total.hung {
             "a program that hung"
@@ -282,8 +310,14 @@ pub fn compare(options: &Options) -> bool {
         };
         println!("stopped by {why} after {} cases", total.graphs);
     }
+    let (wanted, lacking) = total.mix.lacking(total.graphs);
+    total.wanted = wanted as u64;
+    total.failed += lacking.len() as u64;
+    for what in &lacking {
+        println!("LACKING {what}");
+    }
     total.print(began.elapsed().as_secs_f64());
-    total.failed == 0
+    total.failed == 0 && total.graphs > 0
 }
 
 /// Takes cases one after another until they, or the seconds, run out.
@@ -313,14 +347,13 @@ pub fn show_case(seed: u64, index: u64, programs: Option<&Programs>) -> bool {
     let case = case(seed, index);
     let hex: String = case.file.iter().map(|byte| format!("{byte:02x}")).collect();
     println!("seed {seed} index {index}\nfile {hex}");
-    print!("hlist\n{}", hlist(&case.file));
-    for line in &case.runs {
-        let answer = hrun(line, &case.file);
-        print!("hrun {}\n{}", spoken(line), shown(answer));
-    }
-    for line in &case.scores {
-        let answer = hscore(line, &case.file);
-        print!("hscore {}\n{}", spoken(line), shown(answer));
+    for (program, line) in case.lines() {
+        let answer = match program {
+            "hlist" => Ok(hlist(&case.file)),
+            "hrun" => hrun(line, &case.file),
+            _ => hscore(line, &case.file),
+        };
+        print!("{program} {}\n{}", spoken(line), shown(answer));
     }
     let Some(programs) = programs else {
         return true;
@@ -336,4 +369,25 @@ pub fn show_case(seed: u64, index: u64, programs: Option<&Programs>) -> bool {
 
 fn shown(answer: Result<String, String>) -> String {
     answer.unwrap_or_else(|error| format!("(bad arguments) {error}\n"))
+}
+
+#[cfg(test)]
+mod tests {
+    use super::*;
+
+    /// The second program meets all that is wanted, whatever the seed.
+    #[test]
+    fn a_thousand_cases_lack_nothing() {
+        for seed in [1, 20_261_116] {
+            let mut mix = Mix::default();
+            for index in 0..1_000 {
+                let case = case(seed, index);
+                mix.graph(&case.file);
+                for (program, line) in case.lines() {
+                    expected(&case, program, line, &mut mix);
+                }
+            }
+            assert_eq!(mix.lacking(1_000).1, Vec::<String>::new(), "seed {seed}");
+        }
+    }
 }

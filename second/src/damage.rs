@@ -36,7 +36,7 @@ pub fn damaged(dice: &mut Dice, draft: &Draft) -> Vec<u8> {
 
 /// What a field means, as far as it has a limit.
 #[derive(Clone, Copy, PartialEq)]
-enum Limited {
+pub enum Limited {
     Kind,
     Operator,
     Comparison,
@@ -45,7 +45,7 @@ enum Limited {
     Target,
 }
 
-fn meaning(kind: u32, word: usize) -> Option<Limited> {
+pub fn meaning(kind: u32, word: usize) -> Option<Limited> {
     match (kind, word) {
         (_, 0) => Some(Limited::Kind),
         (OP, 1) => Some(Limited::Operator),

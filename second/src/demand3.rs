@@ -250,12 +250,12 @@ impl Attempt<'_, '_> {
         let mut line = self.line("hardened", steps + spare, "");
         line.remove(3);
         let expected = format!("{positions} {caught} 0 {harmless} 0 0\n");
-        let Some(said) = self.trial.said("hscore", &line) else {
+        let Some(output) = self.trial.output("hscore", &line) else {
             return;
         };
         self.trial.tally.hardened_scores += 1;
-        if said.output != expected {
-            let message = format!("demand 3: expected {expected}found {}", said.output);
+        if output != expected {
+            let message = format!("demand 3: expected {expected}found {output}");
             self.trial.fail("hscore", &line, &message);
         }
     }
@@ -268,16 +268,13 @@ impl Attempt<'_, '_> {
     }
 
     fn observe(&mut self, line: &Line) -> Option<Observed> {
-        let said = self.trial.said("hrun", line)?;
+        let output = self.trial.output("hrun", line)?;
         let budget: u32 = line[1].parse().unwrap_or(0);
         // Walking along steps that were never allowed would lead nowhere.
-        let observed = Observed::parse(&said.output).filter(|observed| observed.steps <= budget);
+        let observed = Observed::parse(&output).filter(|observed| observed.steps <= budget);
         if observed.is_none() {
             self.trial.tally.follows += 1;
-            let message = format!(
-                "demand 3: expected the lines of a run, found\n{}",
-                said.output
-            );
+            let message = format!("demand 3: expected the lines of a run, found\n{output}");
             self.trial.fail("hrun", line, &message);
         }
         observed

@@ -1,7 +1,8 @@
 //! The examples held against their table of scores, each through a given
 //! program and through the second one, and each file against its readable form.
 
-use crate::observe::Starter;
+use crate::compare::difference;
+use crate::observe::{Said, Starter};
 use crate::programs::hscore;
 use crate::text::assemble;
 use std::collections::BTreeSet;
@@ -43,14 +44,13 @@ pub fn check(directory: &Path, program: Option<&Path>) -> Result<bool, String> {
         if let Some(program) = program {
             let said = starter.start(program, &line, &file);
             let said = said.map_err(|error| format!("{}: {error}", program.display()))?;
-            checks.say(
-                said.output == format!("{}\n", row.score),
-                &format!("hscore: {name}"),
-            );
+            let expected = Said::answer(&format!("{}\n", row.score));
+            checks.say(said == expected, &format!("hscore: {name}"));
+            print!("{}", difference(&said, &expected));
         }
     }
     println!("{} passed, {} failed", checks.passed, checks.failed);
-    Ok(checks.failed == 0)
+    Ok(checks.failed == 0 && checks.passed > 0)
 }
 
 #[derive(Default)]

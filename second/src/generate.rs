@@ -8,6 +8,7 @@ use crate::file;
 use crate::programs::{read, read_hardened, Held};
 use crate::run::{run, Outcome, LAST_BUDGET};
 use crate::shapes::any_shape;
+use crate::special::{purpose, special_file, Purpose};
 
 /// The words of one command line.
 pub type Line = Vec<String>;
@@ -17,8 +18,19 @@ pub struct Case {
     pub index: u64,
     pub file: Vec<u8>,
     pub input: Vec<u32>,
+    pub lists: Vec<Line>,
     pub runs: Vec<Line>,
     pub scores: Vec<Line>,
+}
+
+impl Case {
+    /// Every command line with the program that it is for.
+    pub fn lines(&self) -> impl Iterator<Item = (&'static str, &Line)> {
+        let lists = self.lists.iter().map(|line| ("hlist", line));
+        let runs = self.runs.iter().map(|line| ("hrun", line));
+        let scores = self.scores.iter().map(|line| ("hscore", line));
+        lists.chain(runs).chain(scores)
+    }
 }
 
 /// What an undisturbed run with all the budget and room shows.
@@ -32,7 +44,11 @@ struct Facts {
 
 pub fn case(seed: u64, index: u64) -> Case {
     let mut dice = Dice::new(seed, index);
-    let file = graph_file(&mut dice);
+    let purpose = purpose(index);
+    let file = match purpose {
+        Some(purpose) => special_file(&mut dice, purpose),
+        None => graph_file(&mut dice),
+    };
     let input = input(&mut dice);
     let plain = read(&file).ok().map(|held| facts(&held, &input));
     let hardened = read_hardened(&file).ok().map(|held| facts(&held, &input));
@@ -41,7 +57,10 @@ pub fn case(seed: u64, index: u64) -> Case {
         input: &input,
         plain,
         hardened,
+        index,
+        purpose: purpose.map(|(purpose, _)| purpose),
     };
+    let lists = writer.lists();
     let runs = writer.runs();
     let scores = writer.scores();
     Case {
@@ -49,6 +68,7 @@ pub fn case(seed: u64, index: u64) -> Case {
         index,
         file,
         input,
+        lists,
         runs,
         scores,
     }
@@ -95,15 +115,43 @@ const SCORE_BUDGETS: [u32; 8] = [16, 3, 6, 1, 1, 2, 12, 60];
 const RUN_ROOMS: [u32; 8] = [12, 5, 4, 8, 12, 6, 5, 48];
 const SCORE_ROOMS: [u32; 8] = [16, 3, 2, 8, 4, 5, 6, 60];
 
+/// Bad numbers that are more than a good one written oddly.
+const BAD_NUMBERS: [&str; 10] = [
+    "",
+    "-1",
+    "+5",
+    "4294967296",
+    "1x",
+    "99999999999",
+    "0x10",
+    "1.5",
+    "none ",
+    "٣",
+];
+
 /// Chooses the command lines for a file from what its runs show.
 struct Writer<'a> {
     dice: &'a mut Dice,
     input: &'a [u32],
     plain: Option<Facts>,
     hardened: Option<Facts>,
+    index: u64,
+    purpose: Option<Purpose>,
 }
 
 impl Writer<'_> {
+    /// `hlist` takes no arguments and looks at none.
+    fn lists(&mut self) -> Vec<Line> {
+        let mut lines = vec![Vec::new()];
+        if self.index % 10 == 3 {
+            let words = ["plain", "hardened", "100", "", "none", "-", "--help", "x y"];
+            let count = self.dice.between(1, 4);
+            let line = (0..count).map(|_| self.dice.pick(&words).to_string());
+            lines.push(line.collect());
+        }
+        lines
+    }
+
     fn runs(&mut self) -> Vec<Line> {
         // A file that the reader refuses answers alike on every line.
         let count = if self.plain.is_some() { 4 } else { 1 };
@@ -111,9 +159,14 @@ impl Writer<'_> {
         if self.dice.below(30) == 0 {
             lines.extend(self.run_at_each_place());
         }
-        if self.dice.percent(8) {
+        lines.extend(self.special_run());
+        if self.index % 3 == 0 {
             let line = self.run();
-            lines.push(self.spoil(line, 4));
+            lines.push(self.odd(line, 4));
+        }
+        if self.dice.percent(3) {
+            let line = self.run();
+            lines.push(self.too_few_or_many(line, 4));
         }
         lines
     }
@@ -125,11 +178,48 @@ impl Writer<'_> {
             _ => 1,
         };
         let mut lines: Vec<Line> = (0..count).map(|_| self.score()).collect();
-        if self.dice.percent(8) {
+        lines.extend(self.special_score());
+        if self.index % 3 == 1 {
             let line = self.score();
-            lines.push(self.spoil(line, 3));
+            lines.push(self.odd(line, 3));
+        }
+        if self.dice.percent(3) {
+            let line = self.score();
+            lines.push(self.too_few_or_many(line, 3));
         }
         lines
+    }
+
+    /// Budget and room for all that the disturbed runs of a special case do.
+    fn special_numbers(&mut self) -> Option<[u32; 2]> {
+        let (purpose, facts) = (self.purpose?, self.plain?);
+        let budget = match purpose {
+            Purpose::Long => LAST_BUDGET,
+            _ => facts.steps + self.dice.between(6, 40),
+        };
+        let room = facts.words + self.dice.between(2, 40);
+        Some([budget.min(LAST_BUDGET), room.min(LAST_ROOM)])
+    }
+
+    fn special_run(&mut self) -> Option<Line> {
+        let numbers = self.special_numbers()?;
+        let branches = self.plain?.branches;
+        let fault = match self.purpose? {
+            Purpose::LastRegister => "none".to_string(),
+            Purpose::Long => (branches - 1 - self.dice.below(branches.min(2))).to_string(),
+            _ => self.dice.below(branches.max(1)).to_string(),
+        };
+        Some(self.line("plain", &numbers, Some(fault)))
+    }
+
+    fn special_score(&mut self) -> Option<Line> {
+        match self.purpose? {
+            Purpose::OneEvent | Purpose::Many | Purpose::Long => {
+                let numbers = self.special_numbers()?;
+                Some(self.line("plain", &numbers, None))
+            }
+            _ => None,
+        }
     }
 
     /// What is no source is seldom hardened: it would only be refused again.
@@ -260,41 +350,72 @@ impl Writer<'_> {
         line.extend(numbers.iter().map(u32::to_string));
         line.extend(fault);
         line.extend(self.input.iter().map(u32::to_string));
-        if self.dice.below(60) == 0 {
-            line[1] = format!("{:0>10}", line[1]);
-        }
         line
     }
 
-    /// Makes one argument a bad one, or takes some away.
-    fn spoil(&mut self, mut line: Line, fixed: usize) -> Line {
-        let bad_numbers = [
-            "",
-            "-1",
-            "+5",
-            "4294967296",
-            "1x",
-            "99999999999",
-            "0x10",
-            "1.5",
-            "none ",
-            "٣",
-        ];
-        if self.dice.below(4) == 0 {
+    /// Writes one argument in a way of its own; place and way are in turn.
+    fn odd(&mut self, mut line: Line, fixed: usize) -> Line {
+        let turn = (self.index / 3) as usize;
+        let (mut place, turn) = (turn % (fixed + 1), turn / (fixed + 1));
+        let (way, again) = (turn % 5, turn / 5 % 2 == 1);
+        if place == fixed {
+            place = self.dice.between(fixed as u32, line.len() as u32) as usize;
+            line.insert(place, self.dice.below(1 << 20).to_string());
+        }
+        let word = line[place].clone();
+        line[place] = match (place, way) {
+            (0, 0) if again => "plainx".to_string(),
+            (0, _) => self.odd_mode(way, &word),
+            (_, 0 | 1) => {
+                let digits = match way {
+                    0 => self.dice.between(word.len() as u32 + 1, 11).min(10),
+                    _ if again => self.dice.pick(&[12, 15, 16, 17, 266]),
+                    _ => 11,
+                };
+                let number = if word == "none" { "0" } else { &word };
+                format!("{number:0>width$}", width = digits as usize)
+            }
+            (_, 2 | 3) => self.blanks(way, &word),
+            (2, _) if self.dice.percent(40) => "16385".to_string(),
+            _ => self.dice.pick(&BAD_NUMBERS).to_string(),
+        };
+        line
+    }
+
+    fn odd_mode(&mut self, way: usize, word: &str) -> String {
+        match way {
+            0 => format!("{word}x"),
+            // Too long by as much as a byte can count.
+            1 => format!("{word:x<width$}", width = word.len() + 256),
+            2 | 3 => self.blanks(way, word),
+            _ => self
+                .dice
+                .pick(&["Plain", "", "hard", "plai", "0", "plained"])
+                .to_string(),
+        }
+    }
+
+    fn blanks(&mut self, way: usize, word: &str) -> String {
+        let blank = self.dice.pick(&[" ", " ", "\t", "\n"]);
+        match way {
+            2 => format!("{blank}{word}"),
+            _ => format!("{word}{blank}"),
+        }
+    }
+
+    /// Takes some arguments away, or gives a word too many, at times with
+    /// another wrong one before it.
+    fn too_few_or_many(&mut self, mut line: Line, fixed: usize) -> Line {
+        if self.dice.percent(60) {
             line.truncate(self.dice.below(fixed as u32) as usize);
             return line;
         }
-        if self.dice.below(20) == 0 {
-            line.resize(fixed + LAST_INPUT + 1, "7".to_string());
-            return line;
+        let over = self.dice.between(1, 3) as usize;
+        line.resize(fixed + LAST_INPUT + over, "7".to_string());
+        if self.dice.percent(50) {
+            let place = self.dice.below(fixed as u32 + 2) as usize;
+            line[place] = "x".to_string();
         }
-        let place = self.dice.below(line.len() as u32) as usize;
-        line[place] = match place {
-            0 => self.dice.pick(&["Plain", "", "hard", "hardened ", "0"]),
-            2 if self.dice.percent(40) => "16385",
-            _ => self.dice.pick(&bad_numbers),
-        }
-        .to_string();
         line
     }
 }
@@ -313,7 +434,7 @@ mod tests {
         for index in 0..20 {
             let (one, other) = (case(7, index), case(7, index));
             assert_eq!(one.file, other.file);
-            assert_eq!((one.runs, one.scores), (other.runs, other.scores));
+            assert!(one.lines().eq(other.lines()));
         }
         assert_ne!(case(7, 0).file, case(8, 0).file);
     }

@@ -22,5 +22,6 @@ pub mod programs;
 pub mod refusal;
 pub mod run;
 pub mod shapes;
+pub mod special;
 pub mod table;
 pub mod text;

@@ -1,7 +1,6 @@
 //! The command line of the second program.
 #![forbid(unsafe_code)]
 
-use second::arguments::{run_arguments, score_arguments};
 use second::compare::{self, compare, show_case};
 use second::examples;
 use second::options::Options;
@@ -45,21 +44,26 @@ fn main() -> ExitCode {
 fn dispatch(command: &str, rest: &[String]) -> Result<bool, String> {
     match command {
         "hlist" => print(hlist(&graph_file()?).as_bytes()),
-        // Bad arguments are told before anything is waited for.
-        "hrun" => {
-            run_arguments(rest)?;
-            print(hrun(rest, &graph_file()?)?.as_bytes())
-        }
-        "hscore" => {
-            score_arguments(rest)?;
-            print(hscore(rest, &graph_file()?)?.as_bytes())
-        }
+        "hrun" => say(hrun(rest, &graph_file()?)),
+        "hscore" => say(hscore(rest, &graph_file()?)),
         "assemble" => print(&assemble(&whole_text()?)?),
         "show" => show_file(),
         "compare" => compare_programs(rest),
         "case" => one_case(rest),
         "examples" => check_examples(rest),
+        "--help" => print(format!("{USAGE}\n").as_bytes()),
         _ => Err(USAGE.to_string()),
+    }
+}
+
+/// An answer, or the line for a bad argument; the exit status is 0 in both cases.
+fn say(answer: Result<String, String>) -> Result<bool, String> {
+    match answer {
+        Ok(text) => print(text.as_bytes()),
+        Err(line) => {
+            eprintln!("{line}");
+            Ok(true)
+        }
     }
 }
 
@@ -75,9 +79,13 @@ fn compare_programs(rest: &[String]) -> Result<bool, String> {
         "hlist", "hrun", "hscore", "cases", "seed", "seconds", "jobs",
     ];
     let options = Options::parse(rest, &known)?;
+    let cases = options.required_number("cases")?;
+    if cases == 0 {
+        return Err("--cases: expected at least 1".to_string());
+    }
     Ok(compare(&compare::Options {
         programs: options.programs()?,
-        cases: options.required_number("cases")?,
+        cases,
         seed: options.required_number("seed")?,
         seconds: options.number("seconds")?,
         jobs: options.number("jobs")?.unwrap_or(2).max(1) as usize,

@@ -2,6 +2,7 @@
 //! command line, heard until they end, ended when they hang.
 
 use std::io::{self, Read, Write};
+use std::os::unix::process::ExitStatusExt;
 use std::path::{Path, PathBuf};
 use std::process::{Child, Command, Stdio};
 use std::sync::{Arc, Mutex, Weak};
@@ -9,7 +10,7 @@ use std::thread;
 use std::time::{Duration, Instant};
 
 /// Far more than any answer takes.
-const PATIENCE: Duration = Duration::from_secs(20);
+const PATIENCE: Duration = Duration::from_secs(60);
 
 /// The paths of the three programs.
 #[derive(Clone)]
@@ -19,11 +20,41 @@ pub struct Programs {
     pub hscore: PathBuf,
 }
 
-/// What a program wrote, and whether it had to be ended.
+/// How a program came to its end.
+#[derive(Clone, Copy, Debug, PartialEq, Eq)]
+pub enum End {
+    Status(i32),
+    Signal(i32),
+    /// It outlasted our patience and had to be ended.
+    Hung,
+}
+
+/// What a program wrote, and how it ended.
+#[derive(Clone, Debug, PartialEq, Eq)]
 pub struct Said {
     pub output: String,
     pub errors: String,
-    pub ended: bool,
+    pub end: End,
+}
+
+impl Said {
+    /// What an answer looks like: the text alone, nothing beside it.
+    pub fn answer(text: &str) -> Self {
+        Said {
+            output: text.to_string(),
+            errors: String::new(),
+            end: End::Status(0),
+        }
+    }
+
+    /// What a bad argument looks like: its line on standard error, no output.
+    pub fn complaint(line: &str) -> Self {
+        Said {
+            output: String::new(),
+            errors: format!("{line}\n"),
+            end: End::Status(0),
+        }
+    }
 }
 
 struct Running {
@@ -64,14 +95,34 @@ impl Starter {
         // A program may answer without having read everything.
         let _ = stdin.map(|mut pipe| pipe.write_all(file));
         let (output, errors) = (heard(stdout)?, heard(stderr)?);
-        let running = self.slot.lock().expect("no worker fails in here").take();
-        let mut running = running.expect("it was put there above");
-        running.child.wait()?;
+        let end = self.end()?;
         Ok(Said {
             output,
             errors,
-            ended: running.ended,
+            end,
         })
+    }
+
+    /// Waits for the end of a program that has closed its outputs. It stays
+    /// in its slot meanwhile, since it may still hang.
+    fn end(&self) -> io::Result<End> {
+        let mut pause = Duration::from_micros(10);
+        loop {
+            let mut slot = self.slot.lock().expect("no worker fails in here");
+            let running = slot.as_mut().expect("it was put there by the start");
+            if let Some(status) = running.child.try_wait()? {
+                let ended = running.ended;
+                *slot = None;
+                return Ok(match (ended, status.code()) {
+                    (true, _) => End::Hung,
+                    (_, Some(code)) => End::Status(code),
+                    _ => End::Signal(status.signal().unwrap_or(0)),
+                });
+            }
+            drop(slot);
+            thread::sleep(pause);
+            pause = (2 * pause).min(Duration::from_millis(20));
+        }
     }
 }
 

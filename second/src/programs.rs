@@ -2,7 +2,7 @@
 //! `hscore` print for a graph file.
 
 use crate::arguments::{run_arguments, score_arguments, Arguments, Mode};
-use crate::campaign::{campaign, Score};
+use crate::campaign::{watched_campaign, Disturbed, Score};
 use crate::file;
 use crate::graph::{row, Graph};
 use crate::harden::harden;
@@ -50,8 +50,17 @@ pub fn hrun(words: &[String], bytes: &[u8]) -> Result<String, String> {
 }
 
 pub fn hscore(words: &[String], bytes: &[u8]) -> Result<String, String> {
+    hscore_watched(words, bytes, &mut |_| ())
+}
+
+/// The same, with each disturbed run shown to a watcher.
+pub fn hscore_watched(
+    words: &[String],
+    bytes: &[u8],
+    watch: &mut dyn FnMut(&Disturbed),
+) -> Result<String, String> {
     let arguments = score_arguments(words)?;
-    Ok(score_file(&arguments, bytes).unwrap_or_else(refused))
+    Ok(score_file(&arguments, bytes, watch).unwrap_or_else(refused))
 }
 
 fn run_file(arguments: &Arguments, bytes: &[u8]) -> Result<String, Refusal> {
@@ -68,17 +77,21 @@ fn run_file(arguments: &Arguments, bytes: &[u8]) -> Result<String, Refusal> {
     Ok(run_lines(&answer, &buffer))
 }
 
-fn score_file(arguments: &Arguments, bytes: &[u8]) -> Result<String, Refusal> {
+fn score_file(
+    arguments: &Arguments,
+    bytes: &[u8],
+    watch: &mut dyn FnMut(&Disturbed),
+) -> Result<String, Refusal> {
     let (graph, table) = load(arguments.mode, bytes)?;
     let mut first = vec![0; arguments.room as usize];
     let mut second = first.clone();
-    let score = campaign(
+    let score = watched_campaign(
         &graph,
         &table,
         &arguments.input,
-        &mut first,
-        &mut second,
+        [&mut first, &mut second],
         arguments.budget,
+        watch,
     )?;
     Ok(score_line(&score))
 }

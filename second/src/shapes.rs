@@ -31,8 +31,15 @@ impl Draft {
         self.entry = new[self.entry as usize];
     }
 
+    /// Sends every edge to one node, and the entry if it is there, to another.
+    pub fn redirect(&mut self, from: u32, to: u32) {
+        let mut new: Vec<u32> = (0..self.rows.len() as u32).collect();
+        new[from as usize] = to;
+        self.renumber(&new);
+    }
+
     /// Numbers the nodes in a random order.
-    fn shuffle(&mut self, dice: &mut Dice) {
+    pub fn shuffle(&mut self, dice: &mut Dice) {
         let mut order: Vec<u32> = (0..self.rows.len() as u32).collect();
         dice.shuffle(&mut order);
         self.renumber(&order);
@@ -107,6 +114,7 @@ fn structured_any(dice: &mut Dice) -> Draft {
     let registers = match dice.below(8) {
         0 => 62,
         1 => dice.between(60, 64),
+        2 => dice.between(25, 59),
         _ => dice.between(7, 24),
     };
     let nodes = match dice.below(12) {
@@ -439,6 +447,11 @@ fn catching(dice: &mut Dice) -> Draft {
 fn sized(dice: &mut Dice) -> Draft {
     let registers = dice.pick(&[7, 61, 62, 63, 64]);
     let nodes = dice.pick(&[255, 256, 256, 256, 257, 300, 1000, 2049, 2050, 2051]);
+    sized_program(dice, registers, nodes)
+}
+
+/// A program of just so many nodes, at least 250: what lacks is put before its entry.
+pub fn sized_program(dice: &mut Dice, registers: u32, nodes: usize) -> Draft {
     let inner = dice.between(10, 250) as usize;
     let mut draft = structured(dice, registers, inner);
     draft.pad(dice, nodes);

@@ -313,18 +313,46 @@ fn arguments_are_decimal() {
     for bad in ["", "+1", "-1", " 1", "1a", "4294967296", "00000000007", "٣"] {
         assert_eq!(decimal(bad), None, "{bad:?}");
     }
-    for bad in [
-        "",
-        "odd 1 1 none",
-        "plain",
-        "plain 1",
-        "plain 1 16385 none",
-        "plain 1 1 no",
+}
+
+/// The lines of the guide; of several wrong arguments the first in its table.
+#[test]
+fn bad_arguments_are_named() {
+    let line = |what: &str| Err(format!("argument {what}"));
+    let mode = line("1: expected MODE, plain or hardened");
+    let budget = line("2: expected BUDGET, a number up to 4294967295");
+    let room = line("3: expected ROOM, a number up to 16384");
+    let fault = line("4: expected FAULT, none or a number up to 4294967295");
+    let word = line("6: expected WORD, a number up to 4294967295");
+    for (arguments, expected) in [
+        ("", &mode),
+        ("plainx 1 1 none", &mode),
+        ("odd x 16385 no x", &mode),
+        ("plain", &budget),
+        ("plain 00000000001 1 none", &budget),
+        ("plain 1", &room),
+        ("plain 1 16385 none", &room),
+        ("plain 1 1", &fault),
+        ("plain 1 1 no x", &fault),
+        ("plain 1 1 none 7 x y", &word),
     ] {
-        let message = hrun(&words(bad), GRAPH_A).unwrap_err();
-        assert_eq!(message.lines().count(), 1);
+        assert_eq!(hrun(&words(arguments), GRAPH_A), *expected, "{arguments}");
     }
-    let many = format!("plain 1 1{}", " 0".repeat(4097));
-    assert!(hscore(&words(&many), GRAPH_A).is_err());
-    assert!(hscore(&words(&many[..many.len() - 2]), GRAPH_A).is_ok());
+    let blank = ["plain", " 1", "1", "none"].map(String::from);
+    assert_eq!(hrun(&blank, GRAPH_A), budget);
+}
+
+#[test]
+fn words_are_counted_before_they_are_looked_at() {
+    let line = |fixed: &str, count: usize| words(&format!("{fixed}{}", " 0".repeat(count)));
+    let over = |place| {
+        Err(format!(
+            "argument {place}: expected no more than 4096 words"
+        ))
+    };
+    assert!(hscore(&line("plain 1 1", 4096), GRAPH_A).is_ok());
+    assert_eq!(hscore(&line("plain 1 1", 4097), GRAPH_A), over(4100));
+    assert_eq!(hscore(&line("plain 1 1 x", 4099), GRAPH_A), over(4100));
+    assert!(hrun(&line("plain 1 1 none", 4096), GRAPH_A).is_ok());
+    assert_eq!(hrun(&line("plain 1 1 none", 4097), GRAPH_A), over(4101));
 }

@@ -1,14 +1,21 @@
 //! Times the proved run, campaign and hardening beside the same in plain Rust, in one process, on
 //! the same input, after comparing the answers. Prints ratios, and for hardening a share of a
-//! millisecond. Exit status 1: something that is to be reached was not.
+//! millisecond.
+//!
+//! `timing FILE` measures this build. The first of two builds finds no FILE and leaves its numbers
+//! there; the second takes them up, prints both, and judges by the better, since where the linker
+//! puts the same code moves a ratio by a fifth. Exit status 1: something that is to be reached was
+//! not.
 
 mod case;
 mod proved;
 mod race;
 mod same;
+#[cfg(feature = "shifted")]
+mod shifted;
 
 use case::{block, branches, Case, ROOM};
-use race::{Entry, Pick, Race};
+use race::{Entry, Race};
 use same::{rust_run, Buffers};
 use second::programs::{Held, TABLE_WORDS};
 use std::hint::black_box;
@@ -46,63 +53,107 @@ fn main() -> ExitCode {
     for source in &sources {
         lines.extend(source.harden(&mut race));
     }
-    let turns = race.run(TIME);
-    println!(
-        "{:<80} {:>8} {:>8}",
-        format!("least times of {turns} turns, at the best place of the stack and the mean"),
-        "best",
-        "mean"
-    );
-    let missed = lines.iter().filter(|line| !line.print(&race)).count();
-    let rerun = rerun(&Case::new(LOOP, true, 5_000));
-    ExitCode::from(u8::from(!rerun || missed > 0))
+    race.run(TIME);
+    let mut numbers: Vec<f64> = lines.iter().map(|line| line.measured(&race)).collect();
+    lines.push(Line::rerun());
+    numbers.push(rerun(&Case::new(LOOP, true, 5_000)));
+    let Some(path) = std::env::args().nth(1) else {
+        eprintln!("timing FILE: expected a file for the numbers of the first build");
+        return ExitCode::from(2);
+    };
+    match std::fs::read_to_string(&path) {
+        Err(_) => leave(&path, &numbers),
+        Ok(text) => judge(&lines, &first_numbers(&text, numbers.len()), &numbers),
+    }
+}
+
+/// The first build's numbers, one to a line, for the second.
+fn leave(path: &str, numbers: &[f64]) -> ExitCode {
+    #[cfg(feature = "shifted")]
+    shifted::keep();
+    let text: String = numbers.iter().map(|number| format!("{number}\n")).collect();
+    match std::fs::write(path, text) {
+        Ok(()) => ExitCode::SUCCESS,
+        Err(error) => {
+            eprintln!("timing: {path} cannot be written: {error}");
+            ExitCode::from(2)
+        }
+    }
+}
+
+fn first_numbers(text: &str, count: usize) -> Vec<f64> {
+    let numbers: Vec<f64> = text.lines().filter_map(|line| line.parse().ok()).collect();
+    assert_eq!(numbers.len(), count, "the first build's numbers are not whole");
+    numbers
+}
+
+/// Prints both builds' numbers and whether the better one is what is to be reached.
+fn judge(lines: &[Line], first: &[f64], second: &[f64]) -> ExitCode {
+    println!("{:<80} {:>8} {:>8}", "least times of each build", "first", "second");
+    let builds = first.iter().zip(second);
+    let missed = lines.iter().zip(builds).filter(|(line, (one, other))| !line.print(**one, **other));
+    ExitCode::from(u8::from(missed.count() > 0))
 }
 
 /// One line: what was measured, and what is to be reached.
 struct Line {
     what: String,
     measure: Measure,
-    bar: Option<f64>,
+    bar: Option<Bar>,
 }
 
 enum Measure {
     Ratio(Entry, Entry),
     Milliseconds(Entry),
+    Apart,
+}
+
+enum Bar {
+    AtMost(f64),
+    AtLeast(f64),
 }
 
 impl Line {
-    fn ratio(what: String, one: Entry, other: Entry, bar: Option<f64>) -> Self {
+    fn ratio(what: String, one: Entry, other: Entry, most: Option<f64>) -> Self {
         Line {
             what,
             measure: Measure::Ratio(one, other),
-            bar,
+            bar: most.map(Bar::AtMost),
         }
     }
 
-    fn measured(&self, race: &Race, pick: Pick) -> f64 {
+    /// A campaign beside the same made from the start, which is timed apart from the race.
+    fn rerun() -> Self {
+        Line {
+            what: "campaign, hardened loop, 20004 positions: Rust from the start / proved".into(),
+            measure: Measure::Apart,
+            bar: Some(Bar::AtLeast(100.0)),
+        }
+    }
+
+    fn measured(&self, race: &Race) -> f64 {
         match self.measure {
-            Measure::Ratio(one, other) => ratio(race.time(one, pick), race.time(other, pick)),
-            Measure::Milliseconds(one) => ratio(race.time(one, pick), Duration::from_millis(1)),
+            Measure::Ratio(one, other) => ratio(race.time(one), race.time(other)),
+            Measure::Milliseconds(one) => ratio(race.time(one), Duration::from_millis(1)),
+            Measure::Apart => unreachable!("timed apart"),
         }
     }
 
-    /// Prints both picks; whether the best reached the bar, if there is one.
-    fn print(&self, race: &Race) -> bool {
-        let (best, mean) = (
-            self.measured(race, Pick::Best),
-            self.measured(race, Pick::Mean),
-        );
-        let reached = self.bar.is_none_or(|bar| best <= bar);
-        let verdict = self.bar.map(|bar| verdict("at most", bar, reached));
-        let verdict = verdict.unwrap_or_default();
-        println!("{:<80} {best:>8.2} {mean:>8.2}   {verdict}", self.what);
+    /// Prints both builds' numbers; whether the better reached the bar, if there is one.
+    fn print(&self, first: f64, second: f64) -> bool {
+        let (verdict, reached) = match &self.bar {
+            None => (String::new(), true),
+            Some(Bar::AtMost(most)) => verdict("at most", *most, first.min(second) <= *most),
+            Some(Bar::AtLeast(least)) => verdict("at least", *least, first.max(second) >= *least),
+        };
+        println!("{:<80} {first:>8.2} {second:>8.2}   {verdict}", self.what);
         reached
     }
 }
 
-fn verdict(side: &str, bar: f64, reached: bool) -> String {
+fn verdict(side: &str, bar: f64, reached: bool) -> (String, bool) {
     let word = if reached { "reached" } else { "NOT REACHED" };
-    format!("{side} {bar}: {word}")
+    (format!("{side} {bar}: {word}"), reached)
 }
 
 /// How many times as long the one took as the other.
@@ -146,7 +197,7 @@ impl Pair {
         let what = format!("run, {}", self.name);
         let title = format!("{what}, {} steps: proved / Rust", steps.1);
         [
-            Line::ratio(title, proved, rust, Some(1.3)),
+            Line::ratio(title, proved, rust, Some(1.15)),
             growth(&what, steps, halved, proved),
         ]
     }
@@ -164,26 +215,20 @@ impl Pair {
         let what = format!("campaign, {}", self.name);
         let title = format!("{what}, {positions} positions: proved / forked Rust");
         [
-            Line::ratio(title, proved, rust, Some(1.5)),
+            Line::ratio(title, proved, rust, Some(1.0)),
             growth(&what, (half, positions), halved, proved),
         ]
     }
 }
 
-/// A campaign beside the same with each disturbed run made from the start.
-fn rerun(case: &Case) -> bool {
+/// How many times as long a campaign takes with each disturbed run made from the start.
+fn rerun(case: &Case) -> f64 {
     let (mut ours, mut theirs) = (Buffers::new(), Buffers::new());
     let score = same::campaign(case);
+    assert_eq!(score.positions, 20_004);
     let proved = least(300, || hold(ours.proved(black_box(case))));
     let rust = least(3, || assert_eq!(theirs.rerun(black_box(case)), score));
-    let times = ratio(rust, proved);
-    let reached = times >= 100.0;
-    let verdict = verdict("at least", 100.0, reached);
-    let positions = score.positions;
-    let what =
-        format!("campaign, hardened loop, {positions} positions: Rust from the start / proved");
-    println!("{what:<80} {times:>8.0} {:>8}   {verdict}", "");
-    reached
+    ratio(rust, proved)
 }
 
 fn least(times: u32, mut work: impl FnMut()) -> Duration {
@@ -220,7 +265,7 @@ impl Source {
         let milliseconds = Line {
             what: format!("{what}, H = {nodes}: milliseconds"),
             measure: Measure::Milliseconds(whole),
-            bar: Some(0.5),
+            bar: Some(Bar::AtMost(0.5)),
         };
         [milliseconds, growth(&what, (128, 256), halved, whole)]
     }

@@ -22,13 +22,6 @@ struct Job<'a> {
 #[derive(Clone, Copy)]
 pub struct Entry(usize);
 
-/// What is taken of a job's least times: that at the best place of the stack, or the mean of all.
-#[derive(Clone, Copy)]
-pub enum Pick {
-    Best,
-    Mean,
-}
-
 impl<'a> Race<'a> {
     pub fn enter(&mut self, work: impl FnMut() + 'a) -> Entry {
         self.jobs.push(Job {
@@ -38,8 +31,8 @@ impl<'a> Race<'a> {
         Entry(self.jobs.len() - 1)
     }
 
-    /// Turns until the time is over, each place as often as any other; how many.
-    pub fn run(&mut self, time: Duration) -> usize {
+    /// Turns until the time is over, each place as often as any other.
+    pub fn run(&mut self, time: Duration) {
         let began = Instant::now();
         let mut turns = 0;
         while began.elapsed() < time || turns % PLACES > 0 {
@@ -48,15 +41,12 @@ impl<'a> Race<'a> {
             }
             turns += 1;
         }
-        turns
     }
 
-    pub fn time(&self, entry: Entry, pick: Pick) -> Duration {
+    /// The least time, at the best place of the stack.
+    pub fn time(&self, entry: Entry) -> Duration {
         let least = &self.jobs[entry.0].least;
-        match pick {
-            Pick::Best => *least.iter().min().expect("there are places"),
-            Pick::Mean => least.iter().sum::<Duration>() / PLACES as u32,
-        }
+        *least.iter().min().expect("there are places")
     }
 }
 

@@ -22,7 +22,8 @@ use Rattle.bench.specs.declared.Score.{Score}
 no-score : {P : Type 0} (number place : ℕ) (score : Score) → refused number place ≡ given score → P
 no-score number place score e = absurd (let z : _≡_ {A = ℕ} 0 1 = cc in omega arith)
 
-by-outcome : (s : Setting) (entry budget : ℕ) (m : Machine) (outcome : Outcome) (score : Score) → scoreOf s entry budget m outcome ≡ given score → Whole (m .branches) score
+by-outcome : (s : Setting) (entry budget : ℕ) (m : Machine) (outcome : Outcome) (score : Score) → scoreOf s entry budget m outcome ≡ given score
+    → Whole (m .branches) score
 by-outcome s entry budget m (Returned value) score e =
     let is : scoreBelow s entry budget value (m .events) (m .branches) ≡ score = cc in
     subst (Whole (m .branches)) is (score-whole s entry budget value (m .events) (m .branches))

@@ -47,7 +47,8 @@ fits sequel.Returned value words room h ok = omega arith
 fits sequel.Caught value words room h ok = omega arith
 
 module _ (room rounds : ℕ) (m : Machine) (w : Within room rounds m) where
-  by-room : (e : Effect) → Counts e → (b : Bool) → hasRoom (e .sequel) (length (m .events)) room ≡ b → Within room (rounds + 1) (followed room (stateOf m) (m .events) e .machine)
+  by-room : (e : Effect) → Counts e → (b : Bool) → hasRoom (e .sequel) (length (m .events)) room ≡ b
+      → Within room (rounds + 1) (followed room (stateOf m) (m .events) e .machine)
   by-room e small true ok =
       let more = length-append (m .events) (eventWords (e .sequel) (e .value)) in
       let fit = fits (e .sequel) (e .value) (length (m .events)) room (w .events) ok in
@@ -67,7 +68,8 @@ module _ (s : Setting) (fault : Fault) where
   within-of rounds m w (ended outcome) = record { steps = omega arith; branches = w .branches; reads = w .reads; events = w .events }
 
   -- from any machine within bounds, after any number of rounds
-  pub within-after : (from : ℕ) (p : Progress) → Within (s .room) from (p .machine) → (rounds : ℕ) → Within (s .room) (from + rounds) (after s fault p rounds .machine)
+  pub within-after : (from : ℕ) (p : Progress) → Within (s .room) from (p .machine) → (rounds : ℕ)
+      → Within (s .room) (from + rounds) (after s fault p rounds .machine)
   unfolding after next
   within-after from p w zero = rw add-zero w
   within-after from p w (suc rounds) =

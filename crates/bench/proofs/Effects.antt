@@ -33,7 +33,8 @@ module _ (inputs : List ℕ) (room : ℕ) (fault : Fault) (state : State) (event
   same : (a : ℕ) → set (state .registers) a (getD (state .registers) a 0) ≡ state .registers
   same a = set-getD (state .registers) a 0
 
-  by-node : (node : Node) → unless (stopped room node (machineOf state events)) (machineOf state events) (execute inputs fault node (machineOf state events)) ≡ followed room state events (effectOf (state .registers) inputs (state .reads) (state .node) (inverts fault (state .branches)) node)
+  by-node : (node : Node)
+      → unless (stopped room node (machineOf state events)) (machineOf state events) (execute inputs fault node (machineOf state events)) ≡ followed room state events (effectOf (state .registers) inputs (state .reads) (state .node) (inverts fault (state .branches)) node)
   unfolding effectOf
   by-node (go (const d k) next) = simp (append-nil, add-zero)
   by-node (go (op o d a b) next) = simp (append-nil, add-zero)
@@ -45,6 +46,7 @@ module _ (inputs : List ℕ) (room : ℕ) (fault : Fault) (state : State) (event
   by-node stop = simp (append-nil, add-zero, same)
 
 -- one step of a run
-pub step-effect : (s : Setting) (fault : Fault) (state : State) (events : List ℕ) → step s fault (machineOf state events) ≡ followed (s .room) state events (effectFrom s fault state)
+pub step-effect : (s : Setting) (fault : Fault) (state : State) (events : List ℕ)
+    → step s fault (machineOf state events) ≡ followed (s .room) state events (effectFrom s fault state)
 unfolding step effectFrom
 step-effect s fault state events = by-node (s .inputs) (s .room) fault state events (s .graph (state .node))

@@ -30,7 +30,8 @@ grown-on {m} {n} {o} g h =
       events = h .events ∙ ap (λ (l : List ℕ). l ++ h .more) (g .events) ∙ append-assoc (m .events) (g .more) (h .more);
     }
 
-by-room : (room : ℕ) (m : Machine) (e : Effect) (b : Bool) → hasRoom (e .sequel) (length (m .events)) room ≡ b → Grown m (followed room (stateOf m) (m .events) e .machine)
+by-room : (room : ℕ) (m : Machine) (e : Effect) (b : Bool) → hasRoom (e .sequel) (length (m .events)) room ≡ b
+    → Grown m (followed room (stateOf m) (m .events) e .machine)
 by-room room m e true ok = rw ok (record { branches = omega arith; more = eventWords (e .sequel) (e .value); events = refl })
 by-room room m e false lacks = rw lacks (grown-none m)
 

@@ -8,9 +8,8 @@ pub mod Prefixes
 pub mod Turns
 pub mod Pairs
 pub mod Checked
-pub mod Forks
 pub mod Tallies
-pub mod Walks
+pub mod Asides
 pub mod Campaigned
 pub mod Signed
 pub mod Accepted

@@ -32,7 +32,8 @@ module _ (s : Setting) (entry budget value : ℕ) (reference : List ℕ) where
   unfolding scoreBelow
   score-none = refl
 
-  pub score-more : (k : ℕ) → scoreBelow s entry budget value reference (k + 1) ≡ tallied (classAt s entry budget value reference k) (scoreBelow s entry budget value reference k)
+  pub score-more : (k : ℕ)
+      → scoreBelow s entry budget value reference (k + 1) ≡ tallied (classAt s entry budget value reference k) (scoreBelow s entry budget value reference k)
   unfolding scoreBelow
   score-more k = rw add-one
 

@@ -17,7 +17,7 @@ use Rattle.bench.specs.Words.{compare}
 use Rattle.bench.specs.Steps.{Setting, Status, going, ended, Progress, at, inverts, flip}
 use Rattle.bench.specs.Effects.{comparand, effectOf, effectFrom, eventWords, hasRoom, statusAfter, applied, machineOf}
 use Rattle.bench.specs.Runs.{next, after, settled}
-use Rattle.bench.specs.Ready.{End, Ends, Ready, Halted, Proceeds, settingOf, restOf, endedWith}
+use Rattle.bench.specs.Ready.{End, Ends, Ready, settingOf}
 use Rattle.bench.proofs.Bounds.{Counts, counts}
 use Rattle.bench.proofs.Effects.{followed, step-effect}
 use Rattle.bench.proofs.Rounds.{after-none, after-more, next-going, ended-stays}
@@ -53,7 +53,9 @@ module _ (registers inputs : List ℕ) (reads self : ℕ) (flips : Bool) (nodes 
   named stop i = (omega arith, h)
 
 -- the effect that the code computes
-pub effect-from : (table inputs : List ℕ) (room : ℕ) (fault : Fault) (state : State) {e : Effect} {flips : Bool} → flips ≡ inverts fault (state .branches) → e ≡ effectOf (state .registers) inputs (state .reads) (state .node) flips (nodeAt table (state .node)) → e ≡ effectFrom (settingOf table inputs room) fault state
+pub effect-from : (table inputs : List ℕ) (room : ℕ) (fault : Fault) (state : State) {e : Effect} {flips : Bool}
+    → flips ≡ inverts fault (state .branches) → e ≡ effectOf (state .registers) inputs (state .reads) (state .node) flips (nodeAt table (state .node))
+    → e ≡ effectFrom (settingOf table inputs room) fault state
 unfolding effectFrom
 effect-from table inputs room fault state f eq =
     eq ∙ ap (λ (b : Bool). effectOf (state .registers) inputs (state .reads) (state .node) b (nodeAt table (state .node))) f
@@ -70,7 +72,8 @@ module _ (table inputs : List ℕ) (room budget : ℕ) (fault : Fault) (state : 
       (record { register = n .0; next = n .1; counts = counts (state .registers) inputs (state .reads) (state .node) flips node })
 
   -- a state that a run can be in is followed by another
-  pub ready-applied : Ready table budget state → state .steps < budget → e ≡ effectFrom (settingOf table inputs room) fault state → Ready table budget (applied state e)
+  pub ready-applied : Ready table budget state → state .steps < budget → e ≡ effectFrom (settingOf table inputs room) fault state
+      → Ready table budget (applied state e)
   ready-applied ready h eq =
       let i = ready .inside in
       let m = small ready eq in
@@ -81,10 +84,6 @@ module _ (table inputs : List ℕ) (room budget : ℕ) (fault : Fault) (state : 
         branches = omega arith;
         reads = omega arith;
       }
-
--- a run that goes on from a state, the words of its events at the head of a buffer
-abbrev pub going-at : State → ℕ → List ℕ → Progress
-going-at state words buffer = at (machineOf state (take words buffer)) going
 
 -- the words at the head of a buffer, put there, change nothing
 pub put-take : (l : List ℕ) (n : ℕ) → n ≤ length l → put l 0 (take n l) ≡ l
@@ -151,47 +150,3 @@ module _ (s : Setting) (fault : Fault) (p : Progress) (buffer : List ℕ) where
   pub turn-none : (n : ℕ) (rounds : ℕ) (state : State) (words : ℕ) (held : List ℕ) → Reached rounds state words held → rounds ≡ n → EndsAs n (record { outcome = Spent; state = state; words = words }) held
   turn-none n rounds state words held r h =
       ends-as n state (r .events) going words held (ap (after s fault p) (sym h) ∙ r .here) (r .count) (r .holds)
-
--- before the first turn
-pub turn-first : (s : Setting) (fault : Fault) (buffer : List ℕ) (state : State) (words : ℕ) → words ≤ length buffer → Reached s fault (going-at state words buffer) buffer (state .steps - state .steps) state words buffer
-turn-first s fault buffer state words h =
-    record {
-      events = take words buffer;
-      here = rw sub-self (after-none s fault _);
-      count = length-take-le words buffer h;
-      holds = sym (put-take buffer words h);
-    }
-
-module _ (table inputs : List ℕ) (room : ℕ) (fault : Fault) (from : State) (words : ℕ) (buffer : List ℕ) (budget until : ℕ) where
-  -- a run that goes no further
-  pub proceeds-whole : (r : End) (last : List ℕ) → r .state .branches ≤ until → EndsAs (settingOf table inputs room) fault (going-at from words buffer) buffer (budget - from .steps) r last
-      → Proceeds table inputs room fault from words buffer budget until r last
-  unfolding restOf
-  proceeds-whole r last h ends =
-      record { rounds = budget - from .steps; ends = ends; within = h; stands = inl refl }
-
-  -- a run that is halted at a branch
-  pub proceeds-halted : (state : State) (words′ : ℕ) (held : List ℕ) → Ready table budget state → from .steps ≤ state .steps
-      → Reached (settingOf table inputs room) fault (going-at from words buffer) buffer (state .steps - from .steps) state words′ held
-      → state .steps < budget → state .branches ≡ until → Proceeds table inputs room fault from words buffer budget until (endedWith Spent state words′) held
-  unfolding restOf
-  proceeds-halted state words′ held ready later r below at-until =
-      let rounds = state .steps - from .steps in
-      let s = settingOf table inputs room in
-      let ends = turn-none s fault (going-at from words buffer) buffer rounds rounds state words′ held r refl in
-      record {
-        rounds = rounds;
-        ends = ends;
-        within = omega arith;
-        stands = inr (rw (r .here) (record { ready = ready; below = below; branches = at-until; steps = omega arith; status = refl }));
-      }
-
--- a run that may execute as many branches as it has steps is not halted
-pub finish-whole : (table inputs : List ℕ) (room : ℕ) (fault : Fault) (from : State) (words : ℕ) (buffer : List ℕ) (budget : ℕ) (r : End) (last : List ℕ) → Proceeds table inputs room fault from words buffer budget budget r last
-    → Ends (restOf (settingOf table inputs room) fault from words buffer (budget - from .steps)) buffer r last
-finish-whole table inputs room fault from words buffer budget r last p = by (p .stands)
-  where
-    by : (p .rounds ≡ budget - from .steps) ⊎ Halted table budget budget from (p .rounds) (restOf (settingOf table inputs room) fault from words buffer (p .rounds))
-        → Ends (restOf (settingOf table inputs room) fault from words buffer (budget - from .steps)) buffer r last
-    by (inl e) = rw (← e) (p .ends)
-    by (inr h) = absurd (omega (arith, h .ready .branches, h .branches, h .below))

@@ -7,17 +7,19 @@ use mathlib.Core.List.{List}
 use lib.Dec.{eqb}
 use lib.ListN.{length, take, replicate}
 use Rattle.words.specs.Answer.{written}
-use Rattle.words.specs.Buffer.{over}
+use Rattle.words.specs.Buffer.{over, put}
 use Rattle.bench.specs.Steps.{Setting}
-use Rattle.bench.specs.Runs.{runOf, settled}
-use Rattle.bench.specs.Ready.{settingOf, restOf}
-use Rattle.bench.specs.Campaigns.{campaignOf, scoreAnswer, classOf, Class, caught, late, harmless, changed, unended}
+use Rattle.bench.specs.Runs.{runOf}
+use Rattle.bench.specs.Ready.{End, Ends, endedWith, settingOf}
+use Rattle.bench.specs.Campaigns.{campaignOf, scoreAnswer, scoreBelow, Class, caught, late, harmless, changed, unended}
 use Rattle.bench.specs.declared.CampaignAnswer.{CampaignAnswer}
+use Rattle.bench.specs.declared.Fault.{Fault}
 use Rattle.bench.specs.declared.Fault.the-variants.{Undisturbed, Inverted}
-use Rattle.bench.specs.declared.State.{State}
 use Rattle.bench.specs.declared.Outcome.{Outcome}
 use Rattle.bench.specs.declared.Outcome.the-variants as outcome
 use Rattle.bench.specs.declared.Score.{Score}
+use Rattle.bench.specs.declared.runs.Made.{Made}
+use Rattle.bench.specs.declared.scores.Reference.{Reference}
 use Rattle.bench.specs.declared.scores.Class as declared
 use Rattle.bench.specs.declared.scores.Class.the-variants as variant
 
@@ -36,19 +38,6 @@ classBy value prefix whole outcome.Caught = cond prefix caught late
 classBy value prefix whole outcome.Spent = unended
 classBy value prefix whole outcome.Full = changed
 
--- the class of what is left of a run from a state, its next branch inverted
-unfoldable pub forkClass : Setting → ℕ → List ℕ → State → ℕ → List ℕ → ℕ → Class
-forkClass s value reference state words buffer rounds =
-    let p = restOf s (Inverted (state .branches)) state words buffer rounds in
-    classOf value reference (settled (p .status)) (p .machine .events)
-
--- the reference's events at the head of one buffer, the first of them at the head of another too
-pub record Shared (reference : List ℕ) (total : ℕ) (buffer : List ℕ) (words : ℕ) : Type 0 where
-  pub whole : total ≤ length reference
-  pub part : words ≤ total
-  pub room : words ≤ length buffer
-  pub same : take words buffer ≡ take words (take total reference)
-
 -- what the score of a checked graph answers and writes
 abbrev pub Reported : List ℕ → List ℕ → List ℕ → List ℕ → ℕ → ℕ → CampaignAnswer → List ℕ → List ℕ → Type 0
 Reported table inputs first second entry budget r last cleared =
@@ -63,6 +52,31 @@ pub record Referred (s : Setting) (entry budget : ℕ) (buffer : List ℕ) (word
   pub whole : words ≤ length buffer
   pub events : take words buffer ≡ runOf s Undisturbed entry budget .machine .events
   pub branches : positions ≡ runOf s Undisturbed entry budget .machine .branches
+
+-- the undisturbed run's events over a buffer of zeros, as many as it can hold, and their number
+abbrev pub Tried : Setting → ℕ → ℕ → List ℕ → ℕ → Type 0
+Tried s entry budget trial words =
+    let events = runOf s (Inverted budget) entry budget .machine .events in
+    (n : ℕ) × (trial ≡ put (replicate n 0) 0 events) × (words ≡ length events)
+
+-- what is asked of the runs that are to be counted: the places from the first on, as many as the reference's branches, and room in the
+-- buffer for all events
+abbrev pub Asked : Setting → ℕ → ℕ → List ℕ → ℕ → List ℕ → ℕ → ℕ → Type 0
+Asked s entry budget first words events tried positions =
+    0 < positions → (tried ≡ 0) × (length events ≡ s .room) × Referred s entry budget first words positions
+
+abbrev pub endOf : Made → End
+endOf r = endedWith (r .outcome) (r .state) (r .words)
+
+-- what the runs come to: where none is counted it is one run, with the branch at the place inverted; the others are scored
+pub record Makes (s : Setting) (entry budget : ℕ) (first : List ℕ) (reference : Reference) (tried positions : ℕ) (buffer : List ℕ) (r : Made) (last : List ℕ) : Type 0 where
+  pub run : positions ≡ 0 → Ends (runOf s (Inverted tried) entry budget) buffer (endOf r) last
+  pub score : r .score ≡ scoreBelow s entry budget (reference .value) (take (reference .words) first) positions
+
+-- the place that a fault names; no run reaches the place after as many branches as its budget has steps
+abbrev pub placeOf : Fault → ℕ → ℕ
+placeOf Undisturbed budget = budget
+placeOf (Inverted place) budget = place
 
 -- counts that one more fits
 pub record Few (score : Score) : Type 0 where

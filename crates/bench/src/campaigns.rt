@@ -1,13 +1,15 @@
-// A campaign: the checks, a trial run that writes nothing, then the reference and the score of its branches.
+// A campaign: the checks, a trial run that decides on refusal 13, then the reference and the score of its branches.
 ghost use mathlib.Core.Path.{_≡_};
-ghost use lib.ListN.{length};
+ghost use Prim.Native.Nat.{_≤_};
+ghost use lib.ListN.{length, take, replicate};
+ghost use Rattle.words.specs.Buffer.{put};
 ghost use Rattle.bench.specs.Steps.{start};
-ghost use Rattle.bench.specs.Runs.{stateOf};
-ghost use Rattle.bench.specs.Ready.{Ready};
-ghost use Rattle.bench.specs.Classes.{Reported};
+ghost use Rattle.bench.specs.Runs.{runOf, stateOf};
+ghost use Rattle.bench.specs.Ready.{Ready, settingOf};
+ghost use Rattle.bench.specs.Classes.{Reported, Tried};
+ghost use Rattle.bench.specs.declared.Fault.the-variants.{Inverted};
 ghost use Rattle.bench.specs.Campaigns.{campaignOf, campaignAnswer, campaignFirst, campaignSecond};
 use crate::CampaignAnswer;
-use crate::Fault;
 use crate::MOST_STEPS;
 use crate::Outcome;
 use crate::runs;
@@ -15,8 +17,48 @@ use crate::scores;
 use crate::scores::Reference;
 use graph::Check;
 
-// The score of a checked graph. Refusal 13 leaves both buffers as they stood, so the first of the two undisturbed runs has no room
-// to write in.
+// Room for the events of the trial run.
+fn blank() -> [u32; 8192]
+    ensures { λ r. ⌜ r ≡ replicate 8192 0 ⌝ }
+{
+    [0; 8192]
+}
+
+// The first words of a buffer are copied over those of another.
+fn copy(to: &mut [u32], from: &[u32], words: usize)
+    requires { ⌜ (words ≤ length (now to)) × (words ≤ length (now from)) ⌝ }
+    ensures { λ _. ⌜ now (to .exit) ≡ put (now (to .entry)) 0 (take words (now (from .entry))) ⌝ }
+{
+    let mut i = 0;
+    while i < words {
+        to[i] = from[i];
+        i += 1;
+    }
+}
+
+// The reference events are put over the first words of the first buffer: those that the trial run kept, or else the run made again.
+fn refer(
+    table: &[u32],
+    inputs: &[u32],
+    first: &mut [u32],
+    trial: &[u32],
+    words: usize,
+    entry: usize,
+    budget: usize,
+)
+    requires { ⌜ Ready (now table) budget (stateOf (start entry)) ⌝ }
+    requires { ⌜ Tried (settingOf (now table) (now inputs) (length (now first))) entry budget (now trial) words ⌝ }
+    ensures { λ _. ⌜ now (first .exit) ≡ put (now (first .entry)) 0 (runOf (settingOf (now (table .entry)) (now (inputs .entry)) (length (now (first .entry)))) (Inverted budget) entry budget .machine .events) ⌝ }
+{
+    if words <= trial.len() {
+        copy(first, trial, words);
+    } else {
+        let room = first.len();
+        let _again = runs::one(table, inputs, first, room, entry, budget, budget);
+    }
+}
+
+// The score of a checked graph. Refusal 13 leaves both buffers as they stood, so a trial run decides on it before they are written in.
 fn scored(
     table: &[u32],
     inputs: &[u32],
@@ -30,31 +72,30 @@ fn scored(
     ensures { λ r. ⌜ Reported (now (table .entry)) (now (inputs .entry)) (now (first .entry)) (now (second .entry)) entry budget r (now (first .exit)) (now (second .exit)) ⌝ }
 {
     let room = first.len();
-    let mut nowhere: [u32; 0] = [];
-    let fault = Fault::Undisturbed;
-    let trial = runs::whole(table, inputs, &mut nowhere, room, entry, budget, fault);
-    let outcome = trial.outcome;
+    let mut trial = blank();
+    let tried = runs::one(table, inputs, &mut trial, room, entry, budget, budget);
+    let outcome = tried.outcome;
     let Outcome::Returned(value) = outcome else {
         return CampaignAnswer::Refused(13, 0);
     };
-    let ended = runs::whole(table, inputs, first, room, entry, budget, fault);
-    let last = ended.state;
-    let positions = last.branches;
-    let reference = Reference {
-        value,
-        words: ended.words,
-    };
-    let score = scores::walk(
+    let words = tried.words;
+    refer(table, inputs, first, &trial, words, entry, budget);
+    let last = tried.state;
+    let reference = Reference { value, words };
+    let made = runs::make(
         table,
         inputs,
         first,
         reference,
         second,
+        room,
         entry,
         budget,
-        positions,
+        0,
+        last.branches,
     );
     scores::clear(second);
+    let score = made.score;
     CampaignAnswer::Scored(score)
 }
 

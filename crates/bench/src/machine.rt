@@ -2,6 +2,7 @@
 ghost use mathlib.Core.Path.{_≡_};
 ghost use lib.ListN.{length};
 ghost use Rattle.words.specs.Answer.Answer.{refused};
+ghost use Rattle.bench.specs.Classes.{placeOf};
 ghost use Rattle.bench.specs.Runs.{answerOf, runAnswer, runEvents};
 use crate::Fault;
 use crate::MOST_STEPS;
@@ -18,6 +19,16 @@ fn refused(number: u32, place: usize) -> RunAnswer
         verdict: Verdict::Refused(number, place),
         state: runs::start(0),
         events: 0,
+    }
+}
+
+// The place of the branch that a fault inverts. A run executes fewer branches than its budget has steps, or stops at the last.
+fn place_of(fault: Fault, budget: usize) -> usize
+    ensures { λ r. ⌜ r ≡ placeOf fault budget ⌝ }
+{
+    match fault {
+        Fault::Undisturbed => budget,
+        Fault::Inverted(place) => place,
     }
 }
 
@@ -41,13 +52,14 @@ pub fn run(
                 return refused(12, 0);
             }
             let room = events.len();
-            let ended = runs::whole(table, inputs, events, room, entry, budget, fault);
-            let outcome = ended.outcome;
-            let state = ended.state;
+            let place = place_of(fault, budget);
+            let made = runs::one(table, inputs, events, room, entry, budget, place);
+            let outcome = made.outcome;
+            let state = made.state;
             RunAnswer {
                 verdict: Verdict::Ran(outcome),
                 state,
-                events: ended.words / 2,
+                events: made.words / 2,
             }
         }
         Check::Refused(number, place) => refused(number, place),

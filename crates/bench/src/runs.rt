@@ -1,41 +1,31 @@
-// A run under way: the state stays in one place, and each step's effect is applied to it there.
+// Runs: one state by value, to which the effect of each step is applied, and a copy of it set aside at each branch that is tried.
 ghost use mathlib.Core.Path.{_≡_};
-ghost use Prim.Native.Nat.{_+_, _-_, _≤_};
-ghost use mathlib.Core.Bool.{true};
+ghost use Prim.Native.Nat.{_+_};
+ghost use mathlib.Core.Bool.{true, _&&_};
 ghost use mathlib.Core.List.{[], _∷_};
+ghost use lib.Dec.{eqb};
 ghost use lib.ListN.{length, replicate};
 ghost use Rattle.words.specs.Buffer.{put};
 ghost use Rattle.bench.specs.Steps.{start};
 ghost use Rattle.bench.specs.Runs.{runOf, stateOf};
 ghost use Rattle.bench.specs.Effects.{hasRoom, eventWords, statusAfter};
-ghost use Rattle.bench.specs.Ready.{Ready, Proceeds, Ends, settingOf, restOf, endedAt, endOf, runEnd, stateAt, standingAt, statusOf};
-use crate::Fault;
+ghost use Rattle.bench.specs.Ready.{Ready, Ends, settingOf, statusOf};
+ghost use Rattle.bench.specs.Classes.{Asked, Makes, endOf};
+ghost use Rattle.bench.specs.declared.Fault.the-variants.{Inverted};
 use crate::Outcome;
+use crate::Score;
 use crate::State;
+use crate::scores;
+use crate::scores::Reference;
 use crate::steps::Sequel;
 use crate::steps::effect_at;
-use crate::steps::inverts;
 
-// Where a run stands, beside its registers: the node to execute next, the counts, and how many words of events there are.
-pub struct At {
-    pub node: usize,
-    pub steps: usize,
-    pub branches: usize,
-    pub reads: usize,
-    pub words: usize,
-}
-
-// A whole run: its outcome, its last state, and how many words of events it made.
-pub struct Run {
+// What was made: how the last run ended, its last state, how many words of events it made, and the score of the others.
+pub struct Made {
     pub outcome: Outcome,
     pub state: State,
     pub words: usize,
-}
-
-// How a run ended, and where.
-pub struct Ended {
-    pub outcome: Outcome,
-    pub at: At,
+    pub score: Score,
 }
 
 // Whether a run goes on.
@@ -100,96 +90,6 @@ fn write_event(events: &mut [u32], words: usize, sequel: Sequel, value: u32, roo
     }
 }
 
-// How a run ends where it stands.
-fn end(outcome: Outcome, at: At) -> Ended
-    ensures { λ r. ⌜ r ≡ endedAt outcome at ⌝ }
-{
-    Ended { outcome, at }
-}
-
-// A run goes on until it ends, its budget is used up, or so many branches are executed. Its state stays where it is, and each
-// effect is applied to it there. Events past the end of the buffer are counted and lost.
-pub fn proceed(
-    table: &[u32],
-    inputs: &[u32],
-    events: &mut [u32],
-    room: usize,
-    budget: usize,
-    until: usize,
-    fault: Fault,
-    registers: &mut [u32; 64],
-    from: At,
-) -> Ended
-    requires { ⌜ Ready (now table) budget (stateAt (now registers) from) ⌝ }
-    requires { ⌜ (from .words ≤ length (now events)) × (from .branches ≤ until) ⌝ }
-    ensures { λ r. ⌜ Proceeds (now (table .entry)) (now (inputs .entry)) room fault (stateAt (now (registers .entry)) from) (from .words) (now (events .entry)) budget until (endOf (now (registers .exit)) r) (now (events .exit)) ⌝ }
-{
-    let mut at = from;
-    while at.steps < budget {
-        if at.branches == until {
-            return end(Outcome::Spent, at);
-        }
-        let inverted = inverts(fault, at.branches);
-        let effect = effect_at(table, inputs, registers, at.node, at.reads, inverted);
-        let sequel = effect.sequel;
-        if !has_room(sequel, at.words, room) {
-            return end(Outcome::Full, at);
-        }
-        at.words = write_event(events, at.words, sequel, effect.value, room);
-        let register = effect.register;
-        registers[register] = effect.value;
-        at.node = effect.next;
-        at.steps += 1;
-        at.branches += effect.branches;
-        at.reads += effect.reads;
-        if let Ending::With(outcome) = ends(sequel, effect.value) {
-            return end(outcome, at);
-        }
-    }
-    end(Outcome::Spent, at)
-}
-
-// A run goes on to its end. It never executes as many branches as its budget has steps and goes on.
-pub fn finish(
-    table: &[u32],
-    inputs: &[u32],
-    events: &mut [u32],
-    room: usize,
-    budget: usize,
-    fault: Fault,
-    registers: &mut [u32; 64],
-    from: At,
-) -> Ended
-    requires { ⌜ Ready (now table) budget (stateAt (now registers) from) ⌝ }
-    requires { ⌜ from .words ≤ length (now events) ⌝ }
-    ensures { λ r. ⌜ Ends (restOf (settingOf (now (table .entry)) (now (inputs .entry)) room) fault (stateAt (now (registers .entry)) from) (from .words) (now (events .entry)) (budget - from .steps)) (now (events .entry)) (endOf (now (registers .exit)) r) (now (events .exit)) ⌝ }
-{
-    proceed(
-        table,
-        inputs,
-        events,
-        room,
-        budget,
-        budget,
-        fault,
-        registers,
-        from,
-    )
-}
-
-// Where a run stands, put together.
-pub fn standing(node: usize, steps: usize, branches: usize, reads: usize, words: usize) -> At
-    ensures { λ r. ⌜ r ≡ standingAt node steps branches reads words ⌝ }
-{
-    At {
-        node,
-        steps,
-        branches,
-        reads,
-        words,
-    }
-}
-
 // All registers at 0.
 fn zeros() -> [u32; 64]
     ensures { λ r. ⌜ r ≡ replicate 64 0 ⌝ }
@@ -210,40 +110,124 @@ pub fn start(entry: usize) -> State
     }
 }
 
-// A run from the entry to its end.
-pub fn whole(
+// A copy, made part by part: a copy of the whole would wait for the numbers that were stored last.
+fn copied(state: State) -> State
+    ensures { λ r. ⌜ r ≡ state ⌝ }
+{
+    let registers = state.registers;
+    State {
+        registers,
+        node: state.node,
+        steps: state.steps,
+        branches: state.branches,
+        reads: state.reads,
+    }
+}
+
+// Whether a step is the branch that is inverted.
+fn forks(inverted: bool, branches: usize) -> bool
+    ensures { λ r. ⌜ r ≡ (inverted && eqb branches 1) ⌝ }
+{
+    inverted && branches == 1
+}
+
+// Runs from the entry, each with the branch at one place inverted. The state is set aside at that branch, and where the place is to
+// be counted it is taken up again from there to the next place.
+pub fn make(
+    table: &[u32],
+    inputs: &[u32],
+    first: &[u32],
+    reference: Reference,
+    events: &mut [u32],
+    room: usize,
+    entry: usize,
+    budget: usize,
+    tried: usize,
+    positions: usize,
+) -> Made
+    requires { ⌜ Ready (now table) budget (stateOf (start entry)) ⌝ }
+    requires { ⌜ Asked (settingOf (now table) (now inputs) room) entry budget (now first) (reference .words) (now events) tried positions ⌝ }
+    ensures { λ r. ⌜ Makes (settingOf (now (table .entry)) (now (inputs .entry)) room) entry budget (now (first .entry)) reference tried positions (now (events .entry)) r (now (events .exit)) ⌝ }
+{
+    let mut state = start(entry);
+    let mut words = 0;
+    let mut aside = state;
+    let mut shared = 0;
+    let mut place = tried;
+    let mut score = scores::none();
+    loop {
+        let mut outcome = Outcome::Spent;
+        while state.steps < budget {
+            let inverted = place == state.branches;
+            let effect = effect_at(
+                table,
+                inputs,
+                &state.registers,
+                state.node,
+                state.reads,
+                inverted,
+            );
+            let sequel = effect.sequel;
+            if !has_room(sequel, words, room) {
+                outcome = Outcome::Full;
+                break;
+            }
+            if forks(inverted, effect.branches) {
+                aside = copied(state);
+                shared = words;
+            }
+            words = write_event(events, words, sequel, effect.value, room);
+            let register = effect.register % 64;
+            state.registers[register] = effect.value;
+            state.node = effect.next;
+            state.steps += 1;
+            state.branches += effect.branches;
+            state.reads += effect.reads;
+            if let Ending::With(ended) = ends(sequel, effect.value) {
+                outcome = ended;
+                break;
+            }
+        }
+        if positions <= place {
+            return Made {
+                outcome,
+                state,
+                words,
+                score,
+            };
+        }
+        score = scores::counted(first, reference, events, words, shared, outcome, score);
+        place += 1;
+        state = copied(aside);
+        words = shared;
+    }
+}
+
+// One run from the entry, the branch at a place inverted.
+pub fn one(
     table: &[u32],
     inputs: &[u32],
     events: &mut [u32],
     room: usize,
     entry: usize,
     budget: usize,
-    fault: Fault,
-) -> Run
+    place: usize,
+) -> Made
     requires { ⌜ Ready (now table) budget (stateOf (start entry)) ⌝ }
-    ensures { λ r. ⌜ Ends (runOf (settingOf (now (table .entry)) (now (inputs .entry)) room) fault entry budget) (now (events .entry)) (runEnd r) (now (events .exit)) ⌝ }
+    ensures { λ r. ⌜ Ends (runOf (settingOf (now (table .entry)) (now (inputs .entry)) room) (Inverted place) entry budget) (now (events .entry)) (endOf r) (now (events .exit)) ⌝ }
 {
-    let mut state = start(entry);
-    let from = standing(entry, 0, 0, 0, 0);
-    let ended = finish(
+    let nothing: [u32; 0] = [];
+    let reference = Reference { value: 0, words: 0 };
+    make(
         table,
         inputs,
+        &nothing,
+        reference,
         events,
         room,
+        entry,
         budget,
-        fault,
-        &mut state.registers,
-        from,
-    );
-    let outcome = ended.outcome;
-    let at = ended.at;
-    state.node = at.node;
-    state.steps = at.steps;
-    state.branches = at.branches;
-    state.reads = at.reads;
-    Run {
-        outcome,
-        state,
-        words: at.words,
-    }
+        place,
+        0,
+    )
 }

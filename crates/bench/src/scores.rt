@@ -1,19 +1,13 @@
-// The score: the class of each disturbed run, and the walk of the reference that tries one at each branch.
+// The score: the class of a disturbed run, and the counts.
 ghost use mathlib.Core.Path.{_≡_};
 ghost use mathlib.Core.Bool.{_&&_};
-ghost use Prim.Native.Nat.{_-_, _≤_};
+ghost use Prim.Native.Nat.{_≤_};
 ghost use lib.Dec.{eqb};
 ghost use lib.ListN.{length, take, drop, replicate};
-ghost use Rattle.bench.specs.Campaigns.{prefixOf, tallied, noScore, scoreBelow};
-ghost use Rattle.bench.specs.Steps.{start};
-ghost use Rattle.bench.specs.Runs.{stateOf};
-ghost use Rattle.bench.specs.Classes.{Few, Shared, Referred, classBy, classFor, forkClass};
-ghost use Rattle.bench.specs.Ready.{Ready, settingOf};
-use crate::Fault;
+ghost use Rattle.bench.specs.Campaigns.{prefixOf, tallied, noScore};
+ghost use Rattle.bench.specs.Classes.{Few, classBy, classFor};
 use crate::Outcome;
 use crate::Score;
-use crate::State;
-use crate::runs;
 
 // What a disturbed run is counted as.
 pub enum Class {
@@ -106,7 +100,7 @@ fn tally(class: Class, score: Score) -> Score
 }
 
 // The score of no position.
-fn none() -> Score
+pub fn none() -> Score
     ensures { λ r. ⌜ r ≡ noScore ⌝ }
 {
     Score {
@@ -119,6 +113,27 @@ fn none() -> Score
     }
 }
 
+// The score with one run more, whose first words are known to be the reference's.
+pub fn counted(
+    first: &[u32],
+    reference: Reference,
+    events: &[u32],
+    words: usize,
+    shared: usize,
+    outcome: Outcome,
+    score: Score,
+) -> Score
+    requires { ⌜ (reference .words ≤ length (now first)) × (words ≤ length (now events)) × (shared ≤ reference .words) ⌝ }
+    requires { ⌜ Few score ⌝ }
+    ensures { λ r. ⌜ r ≡ tallied (classBy (reference .value) (prefixOf (drop shared (take words (now (events .entry)))) (drop shared (take (reference .words) (now (first .entry))))) (eqb words (reference .words)) outcome) score ⌝ }
+{
+    let prefix = agrees(first, reference.words, events, words, shared);
+    tally(
+        classed(outcome, reference.value, prefix, words == reference.words),
+        score,
+    )
+}
+
 // A buffer is set to zeros.
 pub fn clear(buffer: &mut [u32])
     ensures { λ _. ⌜ now (buffer .exit) ≡ replicate (length (now (buffer .entry))) 0 ⌝ }
@@ -128,102 +143,4 @@ pub fn clear(buffer: &mut [u32])
         buffer[i] = 0;
         i += 1;
     }
-}
-
-// The score with the run from a state of the reference in which its next branch goes to the other target.
-fn tried(
-    table: &[u32],
-    inputs: &[u32],
-    first: &[u32],
-    reference: Reference,
-    events: &mut [u32],
-    budget: usize,
-    from: State,
-    words: usize,
-    score: Score,
-) -> Score
-    requires { ⌜ Ready (now table) budget from ⌝ }
-    requires { ⌜ Shared (now first) (reference .words) (now events) words ⌝ }
-    requires { ⌜ Few score ⌝ }
-    ensures { λ r. ⌜ r ≡ tallied (forkClass (settingOf (now (table .entry)) (now (inputs .entry)) (length (now (events .entry)))) (reference .value) (take (reference .words) (now (first .entry))) from words (now (events .entry)) (budget - from .steps)) score ⌝ }
-    ensures { λ _. ⌜ take words (now (events .exit)) ≡ take words (now (events .entry)) ⌝ }
-{
-    let room = events.len();
-    let fault = Fault::Inverted(from.branches);
-    let at = runs::standing(from.node, from.steps, from.branches, from.reads, words);
-    let mut fork = from;
-    let ended = runs::finish(
-        table,
-        inputs,
-        events,
-        room,
-        budget,
-        fault,
-        &mut fork.registers,
-        at,
-    );
-    let end = ended.at;
-    let made = end.words;
-    let prefix = agrees(first, reference.words, events, made, words);
-    let outcome = ended.outcome;
-    tally(
-        classed(outcome, reference.value, prefix, made == reference.words),
-        score,
-    )
-}
-
-// The reference is walked once more, from branch to branch, and at each the run that inverts it is tried. Up to that branch both
-// are the same, so it is made from the state before it, and the words of the events so far already lie in the buffer.
-pub fn walk(
-    table: &[u32],
-    inputs: &[u32],
-    first: &[u32],
-    reference: Reference,
-    events: &mut [u32],
-    entry: usize,
-    budget: usize,
-    positions: usize,
-) -> Score
-    requires { ⌜ Ready (now table) budget (stateOf (start entry)) ⌝ }
-    requires { ⌜ Referred (settingOf (now table) (now inputs) (length (now events))) entry budget (now first) (reference .words) positions ⌝ }
-    ensures { λ r. ⌜ r ≡ scoreBelow (settingOf (now (table .entry)) (now (inputs .entry)) (length (now (events .entry)))) entry budget (reference .value) (take (reference .words) (now (first .entry))) positions ⌝ }
-{
-    let room = events.len();
-    let mut state = runs::start(entry);
-    let mut words = 0;
-    let mut score = none();
-    let mut place = 0;
-    while place < positions {
-        score = tried(
-            table,
-            inputs,
-            first,
-            reference,
-            events,
-            budget,
-            state,
-            words,
-            score,
-        );
-        place += 1;
-        let from = runs::standing(state.node, state.steps, state.branches, state.reads, words);
-        let ended = runs::proceed(
-            table,
-            inputs,
-            events,
-            room,
-            budget,
-            place,
-            Fault::Undisturbed,
-            &mut state.registers,
-            from,
-        );
-        let at = ended.at;
-        state.node = at.node;
-        state.steps = at.steps;
-        state.branches = at.branches;
-        state.reads = at.reads;
-        words = at.words;
-    }
-    score
 }

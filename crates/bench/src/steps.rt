@@ -5,9 +5,8 @@ ghost use mathlib.Core.Bool.{cond};
 ghost use lib.ListN.{length, getD};
 ghost use Rattle.graph.specs.Nodes.{nodeAt};
 ghost use Rattle.bench.specs.Ready.{Inside};
-ghost use Rattle.bench.specs.Steps.{inverts, flip};
+ghost use Rattle.bench.specs.Steps.{flip};
 ghost use Rattle.bench.specs.Effects.{effectOf, keeps, sets, branches, rowAt, nodeOfRow, RegistersIn};
-use crate::Fault;
 use crate::operators;
 
 // What follows a step: the run goes on, goes on after an event from a port, or ends.
@@ -26,16 +25,6 @@ pub struct Effect {
     pub branches: usize,
     pub reads: usize,
     pub sequel: Sequel,
-}
-
-// Whether the fault names the branch executed after so many others.
-pub fn inverts(fault: Fault, branches: usize) -> bool
-    ensures { λ r. ⌜ r ≡ inverts fault branches ⌝ }
-{
-    match fault {
-        Fault::Undisturbed => false,
-        Fault::Inverted(place) => place == branches,
-    }
 }
 
 // The outcome of a test, the other one where it is inverted.

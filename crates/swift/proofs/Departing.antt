@@ -20,7 +20,8 @@ use Rattle.bench.specs.Runs.{next}
 use Rattle.bench.specs.declared.Fault.the-variants.{Undisturbed}
 use Rattle.bench.specs.declared.Outcome.{Outcome}
 use Rattle.bench.specs.declared.Outcome.the-variants.{Returned, Full}
-use Rattle.swift.specs.Demand.{Trial, plain, hardened, hardenedGraph, stopping}
+use Rattle.swift.specs.Demand.{stopping}
+use Rattle.swift.specs.Trials.{Trial, plain, hardened, hardenedGraph}
 use Rattle.swift.proofs.Rows.{own-row, extra-row, extraOf}
 use Rattle.swift.proofs.Rounds.{step-at}
 use Rattle.swift.proofs.Roles.{Accepted, gsr, signOf, checkFor, Along, AtSource, BranchAt, SourceStep, HardenedStep, Moved, Departs, walks, jumps, tests, ends, stops}
@@ -76,13 +77,13 @@ module _ (t : Trial) (ok : Accepted (t .source)) where
   stopped-alike along (input d) next next′ = refl
   stopped-alike along (output port a) next next′ = ap (λ l. cond (leb (length l + 2) (t .room)) none (some Full)) (along .events)
 
-  stopped-stopping : (σ : Machine) (action : Action) (next : ℕ) (o : Outcome) → stopped (t .room) (go action next) σ ≡ some o → stopping (ended o) ≡ 1
+  stopped-stopping : (σ : Machine) (action : Action) (next : ℕ) (o : Outcome) → stopped (t .room) (go action next) σ ≡ some o → stopping o ≡ 1
   stopped-stopping σ (const d k) next o e = cc
   stopped-stopping σ (op p d a b) next o e = cc
   stopped-stopping σ (input d) next o e = cc
   stopped-stopping σ (output port a) next o e = by (leb (length (σ .events) + 2) (t .room)) e
     where
-      by : (b : Bool) → cond b none (some Full) ≡ some o → stopping (ended o) ≡ 1
+      by : (b : Bool) → cond b none (some Full) ≡ some o → stopping o ≡ 1
       by true e = cc
       by false e = let f : o ≡ Full = cc in rw f
 

@@ -12,12 +12,13 @@ use lib.Dec.{ltb}
 use borrow.Author.Tests.{lt-ltb, le-ltb}
 use Rattle.harden.specs.Hardened.{crossing, firstRow}
 use Rattle.bench.specs.Steps.{Machine, Status, going, ended, Progress, at, start, setting, counted}
-use Rattle.bench.specs.Runs.{next, after, runOf}
+use Rattle.bench.specs.Runs.{settled, next, after, runOf}
 use Rattle.bench.specs.declared.Fault.{Fault}
 use Rattle.bench.specs.declared.Fault.the-variants.{Undisturbed}
 use Rattle.bench.specs.declared.Outcome.{Outcome}
 use Rattle.bench.specs.declared.Outcome.the-variants.{Returned}
-use Rattle.swift.specs.Demand.{Trial, plain, hardened, sourceRun, hardenedRun, crossings, when, hardenedSteps, stopping, beside, Agree, Follows}
+use Rattle.swift.specs.Demand.{crossings, when, stopping}
+use Rattle.swift.specs.Trials.{Trial, plain, hardened, sourceRun, hardenedRun, crossed, hardenedSteps, beside, Agree, Follows}
 use Rattle.swift.proofs.Rows.{first-row}
 use Rattle.swift.proofs.Rounds.{step-at, next-ended, steps-going}
 use Rattle.swift.proofs.Roles.{Accepted, signOf, AtSource, Updating, SourceStep, HardenedStep, Moved, Departs, walks, jumps, tests, ends, stops}
@@ -44,15 +45,15 @@ module _ (t : Trial) where
   -- ---- counts
 
   crossings-step : (rounds : ℕ) (p q : Progress) → sourceRun t rounds ≡ p → sourceRun t (suc rounds) ≡ q
-      → crossings t (suc rounds) ≡ crossings t rounds + cond (crossing (t .source) (p .machine .node) && ltb (p .machine .steps) (q .machine .steps)) 1 0
+      → crossed t (suc rounds) ≡ crossed t rounds + cond (crossing (t .source) (p .machine .node) && ltb (p .machine .steps) (q .machine .steps)) 1 0
   unfolding crossings
   crossings-step rounds p q e f =
-      ap₂ (λ a b. crossings t rounds + cond (crossing (t .source) (a .machine .node) && ltb (a .machine .steps) (b .machine .steps)) 1 0) e f
+      ap₂ (λ a b. crossed t rounds + cond (crossing (t .source) (a .machine .node) && ltb (a .machine .steps) (b .machine .steps)) 1 0) e f
 
   steps-are : (rounds : ℕ) (p : Progress) → sourceRun t rounds ≡ p
-      → hardenedSteps t rounds ≡ when (p .machine .steps) (p .machine .branches) (crossings t rounds)
+      → hardenedSteps t rounds ≡ when (p .machine .steps) (p .machine .branches) (crossed t rounds)
   unfolding hardenedSteps
-  steps-are rounds p e = ap (λ a. when (a .machine .steps) (a .machine .branches) (crossings t rounds)) e
+  steps-are rounds p e = ap (λ a. when (a .machine .steps) (a .machine .branches) (crossed t rounds)) e
 
   -- a source step is answered by 1 + 4 + 3 hardened steps, the 4 for a branch and the 3 for a crossing jump
   steps-more : (rounds : ℕ) (σ σ′ : Machine) (status : Status) (branches : ℕ) (crosses : Bool) → sourceRun t rounds ≡ at σ going
@@ -60,10 +61,10 @@ module _ (t : Trial) where
       → Moved t σ σ′ branches crosses → hardenedSteps t (suc rounds) ≡ hardenedSteps t rounds + 1 + 4 * branches + 3 * cond crosses 1 0
   steps-more rounds σ σ′ status branches crosses e f moved =
       let up : ltb (σ .steps) (σ′ .steps) ≡ true = lt-ltb (σ .steps) (σ′ .steps) (omega arith) in
-      let x : crossings t (suc rounds) ≡ crossings t rounds + cond crosses 1 0 =
+      let x : crossed t (suc rounds) ≡ crossed t rounds + cond crosses 1 0 =
       crossings-step rounds (at σ going) (at σ′ status) e f
-      ∙ ap₂ (λ c l. crossings t rounds + cond (c && l) 1 0) (moved .crossed) up
-      ∙ ap (λ c. crossings t rounds + cond c 1 0) (and-true crosses) in
+      ∙ ap₂ (λ c l. crossed t rounds + cond (c && l) 1 0) (moved .crossed) up
+      ∙ ap (λ c. crossed t rounds + cond c 1 0) (and-true crosses) in
       steps-are (suc rounds) (at σ′ status) f ∙ omega (arith, steps-are rounds (at σ going) e)
 
   -- a round that is no step is answered by none
@@ -71,11 +72,11 @@ module _ (t : Trial) where
       → q .machine ≡ p .machine → hardenedSteps t (suc rounds) ≡ hardenedSteps t rounds
   steps-same rounds p q e f same =
       let still : ltb (p .machine .steps) (q .machine .steps) ≡ false = rw same (le-ltb (p .machine .steps) (p .machine .steps) (omega arith)) in
-      let x : crossings t (suc rounds) ≡ crossings t rounds =
+      let x : crossed t (suc rounds) ≡ crossed t rounds =
       crossings-step rounds p q e f
-      ∙ ap (λ l. crossings t rounds + cond (crossing (t .source) (p .machine .node) && l) 1 0) still
-      ∙ ap (λ c. crossings t rounds + cond c 1 0) (and-false (crossing (t .source) (p .machine .node)))
-      ∙ add-zero (crossings t rounds) in
+      ∙ ap (λ l. crossed t rounds + cond (crossing (t .source) (p .machine .node) && l) 1 0) still
+      ∙ ap (λ c. crossed t rounds + cond c 1 0) (and-false (crossing (t .source) (p .machine .node)))
+      ∙ add-zero (crossed t rounds) in
       steps-are (suc rounds) q f ∙ rw (same, x) (sym (steps-are rounds p e))
 
 -- ---- beside the source
@@ -85,7 +86,7 @@ data Beside (t : Trial) (rounds : ℕ) : Type 0 where
   both-going : (σ m : Machine) → sourceRun t rounds ≡ at σ going → hardenedRun t Undisturbed (hardenedSteps t rounds) ≡ at m going → AtSource t σ m
       → Beside t rounds
   both-ended : (σ m : Machine) (o : Outcome) → sourceRun t rounds ≡ at σ (ended o)
-      → hardenedRun t Undisturbed (hardenedSteps t rounds + stopping (ended o)) ≡ at m (ended o)
+      → hardenedRun t Undisturbed (hardenedSteps t rounds + stopping o) ≡ at m (ended o)
       → Agree (t .source .registers) m σ → m .steps ≡ hardenedSteps t rounds → Beside t rounds
 
 module _ (t : Trial) (ok : Accepted (t .source)) where
@@ -176,7 +177,7 @@ module _ (t : Trial) (ok : Accepted (t .source)) where
         (omega (arith, hardened-steps r m he))
     on (stops o s h one) =
         let e : hardenedSteps t (suc rounds) ≡ r = steps-same t rounds (at σ going) (at σ (ended o)) se (source-to (at σ (ended o)) s) refl in
-        let later : hardenedSteps t (suc rounds) + stopping (ended o) ≡ suc r = omega arith in
+        let later : hardenedSteps t (suc rounds) + stopping o ≡ suc r = omega arith in
         both-ended σ m o (source-to (at σ (ended o)) s) (ap (hardenedRun t Undisturbed) later ∙ onward t r (at m (ended o)) he h) (agreed here) (hardened-steps r m he ∙ sym e)
 
   follow : (rounds : ℕ) → Beside t rounds
@@ -188,15 +189,15 @@ module _ (t : Trial) (ok : Accepted (t .source)) where
       by (both-ended σ m o se he agree counts) =
           let sn : sourceRun t (suc rounds) ≡ at σ (ended o) = source-next t rounds (at σ (ended o)) se ∙ next-ended (plain t) Undisturbed σ o in
           let e : hardenedSteps t (suc rounds) ≡ hardenedSteps t rounds = steps-same t rounds (at σ (ended o)) (at σ (ended o)) se sn refl in
-          both-ended σ m o sn (ap (λ k. hardenedRun t Undisturbed (k + stopping (ended o))) e ∙ he) agree (counts ∙ sym e)
+          both-ended σ m o sn (ap (λ k. hardenedRun t Undisturbed (k + stopping o)) e ∙ he) agree (counts ∙ sym e)
 
   -- demand 3, undisturbed
   pub follows : (rounds : ℕ) → Follows t rounds
   unfolding beside
   follows rounds = by (follow rounds)
     where
-      at-end : (p : Progress) → sourceRun t rounds ≡ p → beside t rounds ≡ hardenedRun t Undisturbed (hardenedSteps t rounds + stopping (p .status))
-      at-end p e = ap (λ q. hardenedRun t Undisturbed (hardenedSteps t rounds + stopping (q .status))) e
+      at-end : (p : Progress) → sourceRun t rounds ≡ p → beside t rounds ≡ hardenedRun t Undisturbed (hardenedSteps t rounds + stopping (settled (p .status)))
+      at-end p e = ap (λ q. hardenedRun t Undisturbed (hardenedSteps t rounds + stopping (settled (q .status)))) e
 
       by : Beside t rounds → Follows t rounds
       by (both-going σ m se he here) =

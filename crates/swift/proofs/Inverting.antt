@@ -21,7 +21,8 @@ use Rattle.harden.proofs.Rows.{own, group-order, group-above}
 use Rattle.harden.proofs.Crossings.{sign-apart, targets-lead}
 use Rattle.bench.proofs.Rounds.{after-add, after-more, after-front, ended-stays}
 use Rattle.bench.proofs.Faults.{unreached-after}
-use Rattle.swift.specs.Demand.{Trial, hardened, hardenedGraph, hardenedRun, Executes, Quiet, soon, CaughtSoon, Unchanged, TestOf, first, again, OneTarget, Answered}
+use Rattle.swift.specs.Demand.{soon, TestOf, first, again, OneTarget}
+use Rattle.swift.specs.Trials.{Trial, hardened, hardenedGraph, hardenedRun, AtBranch, Quiet, CaughtAfter, Unchanged, Decided}
 use Rattle.swift.proofs.Rows.{own-row, first-row, catch-row, extraOf}
 use Rattle.swift.proofs.Rounds.{step-at, between, past-place, inverted-step}
 use Rattle.swift.proofs.Roles.{Accepted, gsr, rts, signOf, checkFor, AtSource, Checking, Doubling, BranchAt, side, HardenedStep}
@@ -108,7 +109,7 @@ module _ (t : Trial) (ok : Accepted (t .source)) where
 
     -- what is caught in few enough rounds is caught soon
     caught-soon : (few : ℕ) (m″ : Machine) → few ≤ soon → from m′ few ≡ at m″ (ended Caught) → m″ .reads ≡ m .reads → m″ .events ≡ m .events
-        → CaughtSoon t place rounds
+        → CaughtAfter t place rounds
     caught-soon few m″ h e reads events =
         let run : hardenedRun t (Inverted place) (rounds + 1 + soon) ≡ at m″ (ended Caught) = inverted-run soon ∙ ended-stays (hardened t) Undisturbed (at m′ going) m″ Caught few soon h e in
         record { is-caught = rw run; quiet = quiet (rounds + 1 + soon) (omega arith) (rw run reads) (rw run events) }
@@ -132,7 +133,7 @@ module _ (t : Trial) (ok : Accepted (t .source)) where
 
   -- what demand 3 says of a branch at this node
   abbrev AnsweredAt : ℕ → ℕ → ℕ → Type 0
-  AnsweredAt node place rounds = (OneTarget s node × Unchanged t place rounds) ⊎ ((OneTarget s node → ⊥) × CaughtSoon t place rounds)
+  AnsweredAt node place rounds = (OneTarget s node × Unchanged t place rounds) ⊎ ((OneTarget s node → ⊥) × CaughtAfter t place rounds)
 
   test-place : {n i : ℕ} → TestOf s n i → (i ≡ n) ⊎ (i ≡ groupAt s n + 2)
   test-place first = inl refl
@@ -218,7 +219,7 @@ module _ (t : Trial) (ok : Accepted (t .source)) where
 
   -- by whether the two targets are one
   by-targets : {place rounds n : ℕ} (b : BranchAt t n) (i : ℕ) → TestOf s n i → (b .then ≡ b .else → Unchanged t place rounds)
-      → ((b .then ≡ b .else → ⊥) → CaughtSoon t place rounds) → AnsweredAt i place rounds
+      → ((b .then ≡ b .else → ⊥) → CaughtAfter t place rounds) → AnsweredAt i place rounds
   by-targets {place} {rounds} b i test same other = by (ℕ-discrete (b .then) (b .else))
     where
       by : Dec (b .then ≡ b .else) → AnsweredAt i place rounds
@@ -268,7 +269,7 @@ module _ (t : Trial) (ok : Accepted (t .source)) where
           unchanged place rounds m (doubled (not (d .w))) here refl doubled-wrong refl (doubled (d .w))
           (double-goes t ok (d .way) (d .along) (d .place)) (doubled-joins one (not (d .w)) ∙ sym (doubled-joins one (d .w)))
 
-      doubled-caught : (bd .then ≡ bd .else → ⊥) → CaughtSoon t place rounds
+      doubled-caught : (bd .then ≡ bd .else → ⊥) → CaughtAfter t place rounds
       doubled-caught two =
           let w = not (d .w) in
           let run = wrong-update (doubled w) (cond w (ed + 4) (ed + 6)) (side bd w) (signOf t (d .n)) (signOf t (σ .node)) (d .along .full)
@@ -320,7 +321,7 @@ module _ (t : Trial) (ok : Accepted (t .source)) where
           ∙ sym (prepares w 1) in
           unchanged place rounds m (parted (not w)) here refl first-wrong refl (parted w) first-right meet
 
-      first-caught : (b .then ≡ b .else → ⊥) → CaughtSoon t place rounds
+      first-caught : (b .then ≡ b .else → ⊥) → CaughtAfter t place rounds
       first-caught two =
           let u = not w in
           let along = both-along t ok (a .along) (side b w) (cond u e (e + 1)) in
@@ -365,7 +366,7 @@ module _ (t : Trial) (ok : Accepted (t .source)) where
       by-role (checking σ c) = at-check σ c
 
   -- demand 3, with one branch inverted
-  pub answered : (place rounds : ℕ) → Executes t place rounds → Answered t place rounds
+  pub answered : (place rounds : ℕ) → AtBranch t place rounds → Decided t place rounds
   answered place rounds x =
       let m = hardenedRun t Undisturbed rounds .machine in
       let here : hardenedRun t Undisturbed rounds ≡ at m going = ap (at m) (x .under-way) in

@@ -9,6 +9,7 @@ pub mod Following
 pub mod Standing
 pub mod Inverting
 pub mod Budgets
+pub mod Answering
 pub mod Scores
 pub mod Promised
 pub mod Unique

@@ -17,7 +17,8 @@ use Rattle.bench.specs.Runs.{next}
 use Rattle.bench.specs.declared.Fault.the-variants.{Undisturbed}
 use Rattle.bench.specs.declared.Outcome.{Outcome}
 use Rattle.bench.specs.declared.Outcome.the-variants.{Returned}
-use Rattle.swift.specs.Demand.{Trial, plain, hardened, hardenedGraph, stopping}
+use Rattle.swift.specs.Demand.{stopping}
+use Rattle.swift.specs.Trials.{Trial, plain, hardened, hardenedGraph}
 
 -- what the theorems suppose of a source: accepted, so that a path of no more than N edges reaches each node, and a plan with
 -- distinct signatures
@@ -145,7 +146,7 @@ pub data Departs (t : Trial) (σ m : Machine) : Type 0 where
   tests : (σ′ m′ : Machine) → SourceStep t σ (at σ′ going) → HardenedStep t m (at m′ going) → Moved t σ σ′ 1 false → Tested t σ′ m′ → Departs t σ m
   ends : (value : ℕ) → SourceStep t σ (at (counted σ) (ended (Returned value))) → HardenedStep t m (at (counted m) (ended (Returned value)))
       → crossing (t .source) (σ .node) ≡ false → Departs t σ m
-  stops : (o : Outcome) → SourceStep t σ (at σ (ended o)) → HardenedStep t m (at m (ended o)) → stopping (ended o) ≡ 1 → Departs t σ m
+  stops : (o : Outcome) → SourceStep t σ (at σ (ended o)) → HardenedStep t m (at m (ended o)) → stopping o ≡ 1 → Departs t σ m
 
 -- one step of the hardened run, to a machine in the next role
 abbrev pub Onward : Trial → Machine → (Machine → Type 0) → Type 0

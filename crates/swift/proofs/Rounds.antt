@@ -24,26 +24,32 @@ use Rattle.bench.proofs.Growth.{grown-next, grown-after}
 
 -- ---- steps
 
--- a round that leaves the run going is a step; no round takes back a step or a read, or counts two branches
+-- a round that leaves the run going is a step; no round takes back a step or a read, or counts two steps or two branches
 pub record Stepped (m : Machine) (p : Progress) : Type 0 where
   pub one-step : p .status ≡ going → p .machine .steps ≡ m .steps + 1
   pub steps-more : m .steps ≤ p .machine .steps
+  pub steps-one : p .machine .steps ≤ m .steps + 1
   pub reads-more : m .reads ≤ p .machine .reads
   pub branches-one : p .machine .branches ≤ m .branches + 1
 
+-- an end that is no step
+stayed : (m : Machine) (o : Outcome) → Stepped m (at m (ended o))
+stayed m o =
+    record { one-step = λ on. cc; steps-more = omega arith; steps-one = omega arith; reads-more = omega arith; branches-one = omega arith }
+
 module _ (inputs : List ℕ) (fault : Fault) (m : Machine) where
   executed : (node : Node) → Stepped m (execute inputs fault node m)
-  executed (go (const d k) next) = record { one-step = λ on. refl; steps-more = omega arith; reads-more = omega arith; branches-one = omega arith }
-  executed (go (op o d a b) next) = record { one-step = λ on. refl; steps-more = omega arith; reads-more = omega arith; branches-one = omega arith }
-  executed (go (input d) next) = record { one-step = λ on. refl; steps-more = omega arith; reads-more = omega arith; branches-one = omega arith }
-  executed (go (output port a) next) = record { one-step = λ on. refl; steps-more = omega arith; reads-more = omega arith; branches-one = omega arith }
-  executed (branch c a b then else) = record { one-step = λ on. refl; steps-more = omega arith; reads-more = omega arith; branches-one = omega arith }
-  executed (ret a) = record { one-step = λ on. refl; steps-more = omega arith; reads-more = omega arith; branches-one = omega arith }
-  executed stop = record { one-step = λ on. refl; steps-more = omega arith; reads-more = omega arith; branches-one = omega arith }
+  executed (go (const d k) next) = omega arith
+  executed (go (op o d a b) next) = omega arith
+  executed (go (input d) next) = omega arith
+  executed (go (output port a) next) = omega arith
+  executed (branch c a b then else) = omega arith
+  executed (ret a) = omega arith
+  executed stop = omega arith
 
   kept : (stop : Option Outcome) (p : Progress) → Stepped m p → Stepped m (unless stop m p)
   kept none p c = c
-  kept (some o) p c = record { one-step = λ on. cc; steps-more = omega arith; reads-more = omega arith; branches-one = omega arith }
+  kept (some o) p c = stayed m o
 
 -- a list that is no longer than its beginning is its beginning
 no-more : (xs a b : List ℕ) → xs ++ a ++ b ≡ xs → xs ++ a ≡ xs
@@ -69,7 +75,7 @@ module _ (s : Setting) (fault : Fault) where
   stepped-of m going =
       let node = s .graph (m .node) in
       kept (s .inputs) fault m (stopped (s .room) node m) (execute (s .inputs) fault node m) (executed (s .inputs) fault m node)
-  stepped-of m (ended o) = record { one-step = λ on. cc; steps-more = omega arith; reads-more = omega arith; branches-one = omega arith }
+  stepped-of m (ended o) = stayed m o
 
   pub next-stepped : (p : Progress) → Stepped (p .machine) (next s fault p)
   unfolding next
@@ -83,6 +89,12 @@ module _ (s : Setting) (fault : Fault) where
       let (steps, reads) = after-stepped p rounds in
       let one = next-stepped (after s fault p rounds) in
       (omega arith, omega arith)
+
+  -- so many rounds make no more steps
+  pub steps-few : (p : Progress) (rounds : ℕ) → after s fault p rounds .machine .steps ≤ p .machine .steps + rounds
+  unfolding after
+  steps-few p zero = omega arith
+  steps-few p (suc rounds) = omega (arith, steps-few p rounds, next-stepped (after s fault p rounds) .steps-one)
 
   -- where a later round has made no read and no event, no round in between has
   pub between : (p : Progress) (k n : ℕ) → k ≤ n → after s fault p n .machine .reads ≡ p .machine .reads
@@ -149,16 +161,17 @@ module _ (s : Setting) (place : ℕ) where
 
 -- a branch is a step, and counted
 pub branch-counted : (s : Setting) (m : Machine) → isBranch (s .graph (m .node)) ≡ true
-    → next s Undisturbed (at m going) .machine .steps ≡ m .steps + 1
+    → let m′ = next s Undisturbed (at m going) .machine in (m′ .steps ≡ m .steps + 1) × (m′ .branches ≡ m .branches + 1)
 unfolding next step
 branch-counted s m h = by (s .graph (m .node)) h
   where
     by : (node : Node) → isBranch node ≡ true
-        → unless (stopped (s .room) node m) m (execute (s .inputs) Undisturbed node m) .machine .steps ≡ m .steps + 1
-    by (branch c a b then else) h = refl
-    by (go action next) h = cc
-    by (ret a) h = cc
-    by stop h = cc
+        → let m′ = unless (stopped (s .room) node m) m (execute (s .inputs) Undisturbed node m) .machine in
+        (m′ .steps ≡ m .steps + 1) × (m′ .branches ≡ m .branches + 1)
+    by (branch c a b then else) h = (refl, refl)
+    by (go action next) h = (cc, cc)
+    by (ret a) h = (cc, cc)
+    by stop h = (cc, cc)
 
 -- in the round of its place the branch goes to the other target
 pub inverted-step : (s : Setting) (m : Machine) (c a then else : ℕ) (b : Operand) (w : Bool) → s .graph (m .node) ≡ branch c a b then else

@@ -7,7 +7,7 @@ use lib.ListN.{getD}
 use Rattle.graph.specs.Nodes.{stop}
 use Rattle.harden.specs.Hardened.{Source, extra, crossing, groupAt, firstRow, rowAt, hardenedCount}
 use Rattle.harden.proofs.Rows.{own, group, group-in, source-in, row-own, row-first, row-catch, row-group, hardened-node}
-use Rattle.swift.specs.Demand.{Trial, hardenedGraph}
+use Rattle.swift.specs.Trials.{Trial, hardenedGraph}
 
 abbrev pub extraOf : Source → ℕ → ℕ
 extraOf s n = extra (crossing s n) (s .graph n)

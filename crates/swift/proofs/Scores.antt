@@ -14,7 +14,8 @@ use Rattle.bench.specs.Runs.{settled, after, runOf}
 use Rattle.bench.specs.Campaigns.{prefixOf, same, Class, caught, harmless, classOf, tallied, classAt, scoreBelow}
 use Rattle.bench.specs.declared.Fault.the-variants.{Undisturbed, Inverted}
 use Rattle.bench.specs.declared.Score.{Score}
-use Rattle.swift.specs.Demand.{Trial, hardened, hardenedRun, Executes, soon, CaughtBy, Unchanged, Answered, Returns, TestAt, Covered}
+use Rattle.swift.specs.Demand.{soon}
+use Rattle.swift.specs.Trials.{Trial, hardened, hardenedRun, AtBranch, CaughtBy, Unchanged, Decided, Returns, TestAt, Covered}
 use Rattle.bench.proofs.Rounds.{after-add}
 use Rattle.bench.proofs.Growth.{grown-after}
 use Rattle.swift.proofs.Roles.{Accepted}
@@ -59,14 +60,14 @@ module _ (t : Trial) (ok : Accepted (t .source)) (budget value : ℕ) (returns :
   unfolding classAt hardenedRun
   class-of place p e = ap (λ q. classOf value reference (settled (q .status)) (q .machine .events)) e
 
-  harmless-where : (place rounds : ℕ) → rounds < budget → Executes t place rounds → Unchanged t place rounds → class place ≡ harmless
+  harmless-where : (place rounds : ℕ) → rounds < budget → AtBranch t place rounds → Unchanged t place rounds → class place ≡ harmless
   harmless-where place rounds h x unchanged =
       let before = executed-before t ok place rounds budget x h in
       let spare = returns .to-spare in
       class-of place (hardenedRun t Undisturbed budget) (unchanged budget (omega arith))
       ∙ rw (returns .returned, eq-eqb value value refl, same-self reference)
 
-  caught-where : (place rounds : ℕ) → rounds < budget → Executes t place rounds → CaughtBy t place rounds (rounds + 1 + soon) → class place ≡ caught
+  caught-where : (place rounds : ℕ) → rounds < budget → AtBranch t place rounds → CaughtBy t place rounds (rounds + 1 + soon) → class place ≡ caught
   caught-where place rounds h x soon-caught =
       let before = executed-before t ok place rounds budget x h in
       let spare = returns .to-spare in
@@ -77,7 +78,7 @@ module _ (t : Trial) (ok : Accepted (t .source)) (budget value : ℕ) (returns :
   pub test-harmless : (place : ℕ) → TestAt t place budget → class place ≡ harmless
   test-harmless place x = by (answered t ok place (x .rounds) (x .executed))
     where
-      by : Answered t place (x .rounds) → class place ≡ harmless
+      by : Decided t place (x .rounds) → class place ≡ harmless
       by (inl (one, unchanged)) = harmless-where place (x .rounds) (x .within) (x .executed) unchanged
       by (inr (two, soon-caught)) = absurd (two (x .one-target))
 
@@ -86,7 +87,7 @@ module _ (t : Trial) (ok : Accepted (t .source)) (budget value : ℕ) (returns :
       → ((class place ≡ harmless) × TestAt t place budget) ⊎ ((class place ≡ caught) × (TestAt t place budget → ⊥))
   classes place h = let (rounds, r<, x) = executes t place budget h in by rounds r< x (answered t ok place rounds x)
     where
-      by : (rounds : ℕ) → rounds < budget → Executes t place rounds → Answered t place rounds
+      by : (rounds : ℕ) → rounds < budget → AtBranch t place rounds → Decided t place rounds
           → ((class place ≡ harmless) × TestAt t place budget) ⊎ ((class place ≡ caught) × (TestAt t place budget → ⊥))
       by rounds r< x (inl (one, unchanged)) = inl (harmless-where place rounds r< x unchanged, record { rounds = rounds; within = r<; executed = x; one-target = one })
       by rounds r< x (inr (two, soon-caught)) =

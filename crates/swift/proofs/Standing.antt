@@ -8,7 +8,7 @@ use Rattle.bench.specs.Runs.{next, after, runOf}
 use Rattle.bench.specs.declared.Fault.the-variants.{Undisturbed}
 use Rattle.bench.specs.declared.Outcome.{Outcome}
 use Rattle.bench.specs.declared.Outcome.the-variants.{Returned}
-use Rattle.swift.specs.Demand.{Trial, hardened, hardenedRun}
+use Rattle.swift.specs.Trials.{Trial, hardened, hardenedRun}
 use Rattle.swift.proofs.Rounds.{going-before}
 use Rattle.swift.proofs.Roles.{Accepted, AtSource, Checking, Updating, Preparing, Tested, Doubling, HardenedStep, Departs, walks, jumps, tests, ends, stops, Onward}
 use Rattle.swift.proofs.Stepping.{check-step, update-step, prepare-step, tested-step, doubling-step}

@@ -16,7 +16,7 @@ use Rattle.bench.specs.Words.{operate, compare}
 use Rattle.bench.specs.Steps.{Machine, going, at, get, operandOf, setting, branchTo}
 use Rattle.bench.specs.Runs.{next}
 use Rattle.bench.specs.declared.Fault.the-variants.{Undisturbed}
-use Rattle.swift.specs.Demand.{Trial, hardened, hardenedGraph}
+use Rattle.swift.specs.Trials.{Trial, hardened, hardenedGraph}
 use Rattle.swift.proofs.Xor.{xor-cancel}
 use Rattle.swift.proofs.Rows.{own-row, extra-row, extraOf}
 use Rattle.swift.proofs.Rounds.{step-at}

@@ -146,6 +146,7 @@ table =
     ∷ (hardenedWith oneRet [] Undisturbed is reports (Returned 0) 2 0 [])  -- P11, run
     ∷ (hardenedScore oneRet [] is scores 0 0 0 0 0 0)  -- P11, campaign
     ∷ (sized oneLoop is sizes 3 6 1)  -- P12
+    ∷ (sourceScore oneLoop [] is scored (refused 13 0))  -- P12, campaign of the source
     ∷ (hardenedScore oneLoop [] is scored (refused 13 0))  -- P12, campaign
     ∷ []
 

@@ -1,125 +1,143 @@
--- Demand 3: for every accepted source and input, the undisturbed hardened run stands after 1 + s + 4b + 3x steps as the
--- source after s; and one inverted branch is caught within five further steps, or, at a doubled test whose two targets are
--- one node, has changed nothing two steps later. Here is what each of these words means, over the runs that `run` promises;
--- proofs/Promised.antt has the theorems, and docs/DEMAND3.md goes through them.
+-- Demand 3 as one statement, `Demand3`, over what `harden` answers and leaves in its buffer and over what `run` answers and leaves in
+-- the event buffer, budgets included. proofs/Promised.antt proves it of every accepted source; docs/DEMAND3.md goes through it.
 -- Assumes nothing.
 use Prim.Native.Nat.{ℕ, zero, suc, _+_, _*_, _≤_, _<_}
 use mathlib.Core.Path.{_≡_}
 use mathlib.Core.Logic.{_⊎_}
-use mathlib.Core.Bool.{true, cond, _&&_}
-use mathlib.Core.List.{List, _++_}
-use lib.ListN.{take}
+use mathlib.Core.Bool.{cond, _&&_}
+use mathlib.Core.List.{List}
+use lib.ListN.{length, take}
 use lib.Dec.{ltb}
-use Rattle.graph.specs.Nodes.{Node, branch, Operand, nodeAt}
-use Rattle.harden.specs.Hardened.{Source, isBranch, crossing, groupAt, hardenedTable}
-use Rattle.bench.specs.Steps.{Machine, Setting, Status, going, ended, Progress}
-use Rattle.bench.specs.Runs.{runOf}
+use Rattle.words.specs.Answer.{Answer, given}
+use Rattle.graph.specs.Nodes.{branch, Operand, nodeAt}
+use Rattle.graph.specs.declared.Header.{Header}
+use Rattle.harden.specs.Blocks.{Plan, onePlusRank}
+use Rattle.harden.specs.Hardened.{Source, crossing, groupAt, hardenedCount, hardenAnswer, hardenOutput}
+use Rattle.bench.specs.Runs.{answerOf, mostSteps, runAnswer, runEvents}
 use Rattle.bench.specs.declared.Fault.{Fault}
 use Rattle.bench.specs.declared.Fault.the-variants.{Undisturbed, Inverted}
+use Rattle.bench.specs.declared.Outcome.{Outcome}
 use Rattle.bench.specs.declared.Outcome.the-variants.{Returned, Caught, Spent, Full}
-use Rattle.bench.specs.declared.Score.{Score}
+use Rattle.bench.specs.declared.RunAnswer.{RunAnswer}
+use Rattle.bench.specs.declared.State.{State}
+use Rattle.bench.specs.declared.Verdict.the-variants.{Ran}
 
--- ---- the two runs
+-- ---- what is run
 
--- a source, whatever words stand behind its hardened table, the input words, and the event room
-pub record Trial : Type 0 where
-  pub source : Source
-  pub behind : List ℕ
+-- a source: its R, N and entry, its table, and the plan of its signatures; what hardening answers of it and leaves in its buffer; and
+-- what every run is lent: the input words, and a buffer for the events
+pub record Subject : Type 0 where
+  pub plan : Plan
+  pub header : Header
+  pub table : List ℕ
+  pub answer : Answer Header
+  pub output : List ℕ
   pub inputs : List ℕ
-  pub room : ℕ
+  pub events : List ℕ
 
--- what is run: the source's nodes, or those of its hardened table, with the same inputs and room
-abbrev pub plain : Trial → Setting
-plain t = record { graph = t .source .graph; inputs = t .inputs; room = t .room }
+-- what `harden` makes of a source in a table, with the buffer `out`
+abbrev pub byHarden : Header → (table out inputs events : List ℕ) → Subject
+byHarden h table out inputs events = record {
+  plan = onePlusRank;
+  header = h;
+  table = table;
+  answer = hardenAnswer (h .registers) (h .nodes) (h .entry) table (length out);
+  output = hardenOutput (h .registers) (h .nodes) (h .entry) table out;
+  inputs = inputs;
+  events = events;
+}
 
-unfoldable pub hardenedGraph : Trial → ℕ → Node
-hardenedGraph t n = nodeAt (hardenedTable (t .source) ++ t .behind) n
+-- the source in the table
+abbrev pub sourceIn : Subject → Source
+sourceIn j =
+    record { plan = j .plan; registers = j .header .registers; nodes = j .header .nodes; entry = j .header .entry; graph = nodeAt (j .table) }
 
-abbrev pub hardened : Trial → Setting
-hardened t = record { graph = hardenedGraph t; inputs = t .inputs; room = t .room }
+-- the hardened graph has R + 2 registers, H nodes, and entry N
+abbrev pub hardenedHeader : Subject → Header
+hardenedHeader j = record { registers = j .header .registers + 2; nodes = hardenedCount (sourceIn j); entry = j .header .nodes }
 
--- the two runs after so many rounds: a round is a step, until the run has ended; the hardened graph's entry is node N
-unfoldable pub sourceRun : Trial → ℕ → Progress
-sourceRun t rounds = runOf (plain t) Undisturbed (t .source .entry) rounds
+-- a run: what `run` answers, and what the event buffer holds then
+pub record Run : Type 0 where
+  pub answer : RunAnswer
+  pub events : List ℕ
 
-unfoldable pub hardenedRun : Trial → Fault → ℕ → Progress
-hardenedRun t fault rounds = runOf (hardened t) fault (t .source .nodes) rounds
+-- the run of a graph in a table, from what `run` promises
+unfoldable pub runOn : Subject → Header → List ℕ → Fault → ℕ → Run
+runOn j h words fault budget = record {
+  answer = answerOf (runAnswer (h .registers) (h .nodes) (h .entry) words (j .inputs) (length (j .events)) budget fault);
+  events = runEvents (h .registers) (h .nodes) (h .entry) words (j .inputs) (j .events) budget fault;
+}
+
+-- the source's run with a budget, and the hardened graph's
+abbrev pub runSource : Subject → ℕ → Run
+runSource j budget = runOn j (j .header) (j .table) Undisturbed budget
+
+abbrev pub runHardened : Subject → Fault → ℕ → Run
+runHardened j fault budget = runOn j (hardenedHeader j) (j .output) fault budget
 
 -- ---- undisturbed
 
--- x: the steps from a node whose edge crosses, among the source's first rounds
-unfoldable pub crossings : Trial → ℕ → ℕ
-crossings t zero = 0
-crossings t (suc rounds) =
-    let now = sourceRun t rounds .machine in
-    let then = sourceRun t (suc rounds) .machine in
-    crossings t rounds + cond (crossing (t .source) (now .node) && ltb (now .steps) (then .steps)) 1 0
+-- x: the steps from a node whose edge crosses, among the first s of a run that goes through these states
+unfoldable pub crossings : Source → (ℕ → State) → ℕ → ℕ
+crossings source states zero = 0
+crossings source states (suc s) =
+    let now = states s in
+    let then = states (suc s) in
+    crossings source states s + cond (crossing source (now .node) && ltb (now .steps) (then .steps)) 1 0
 
 -- the hardened steps after s source steps with b branches and x crossing jumps
 abbrev pub when : ℕ → ℕ → ℕ → ℕ
 when s b x = 1 + s + 4 * b + 3 * x
 
--- the same, with s, b and x those of the source's first rounds
-unfoldable pub hardenedSteps : Trial → ℕ → ℕ
-hardenedSteps t rounds =
-    let m = sourceRun t rounds .machine in
-    when (m .steps) (m .branches) (crossings t rounds)
+-- the same for the source's run with a budget: s and b are the steps and branches that it answers
+unfoldable pub stepsBeside : Subject → ℕ → ℕ
+stepsBeside j budget =
+    let state = runSource j budget .answer .state in
+    when (state .steps) (state .branches) (crossings (sourceIn j) (λ k. runSource j k .answer .state) budget)
 
--- Full stops a run before a step, so it is seen in one round more, which is no step
-abbrev pub stopping : Status → ℕ
-stopping going = 0
-stopping (ended (Returned value)) = 0
-stopping (ended Caught) = 0
-stopping (ended Spent) = 0
-stopping (ended Full) = 1
+-- the budget, past the steps named, in which an outcome is seen: Full stops a run before a step, so it takes one more
+abbrev pub stopping : Outcome → ℕ
+stopping (Returned value) = 0
+stopping Caught = 0
+stopping Spent = 0
+stopping Full = 1
 
--- the undisturbed hardened run beside the source's first rounds
-unfoldable pub beside : Trial → ℕ → Progress
-beside t rounds = hardenedRun t Undisturbed (hardenedSteps t rounds + stopping (sourceRun t rounds .status))
+-- the same reads, and the same events: as many of them, and the buffer holds the same
+pub record SameTraffic (r q : Run) : Type 0 where
+  pub same-reads : r .answer .state .reads ≡ q .answer .state .reads
+  pub same-count : r .answer .events ≡ q .answer .events
+  pub same-events : r .events ≡ q .events
 
--- the same node, source registers, reads and events
-pub record Agree (registers : ℕ) (m σ : Machine) : Type 0 where
-  pub same-node : m .node ≡ σ .node
-  pub same-registers : take registers (m .registers) ≡ take registers (σ .registers)
-  pub same-reads : m .reads ≡ σ .reads
-  pub same-events : m .events ≡ σ .events
-
--- the first half of demand 3: so many steps, the same state, and ended alike if the source has, else not at all
-pub record Follows (t : Trial) (rounds : ℕ) : Type 0 where
-  pub steps : beside t rounds .machine .steps ≡ hardenedSteps t rounds
-  pub agree : Agree (t .source .registers) (beside t rounds .machine) (sourceRun t rounds .machine)
-  pub alike : beside t rounds .status ≡ sourceRun t rounds .status
+-- the hardened run with this budget stands as the source's with budget s, after the steps named, and has ended alike or not at all
+pub record Alike (j : Subject) (budget s : ℕ) : Type 0 where
+  pub steps : runHardened j Undisturbed budget .answer .state .steps ≡ stepsBeside j s
+  pub same-verdict : runHardened j Undisturbed budget .answer .verdict ≡ runSource j s .answer .verdict
+  pub same-node : runHardened j Undisturbed budget .answer .state .node ≡ runSource j s .answer .state .node
+  pub same-registers : take (j .header .registers) (runHardened j Undisturbed budget .answer .state .registers)
+      ≡ take (j .header .registers) (runSource j s .answer .state .registers)
+  pub same-traffic : SameTraffic (runHardened j Undisturbed budget) (runSource j s)
 
 -- ---- one branch inverted
 
--- after these rounds the undisturbed hardened run executes a branch, whose place among the branches executed is this
-pub record Executes (t : Trial) (place rounds : ℕ) : Type 0 where
-  pub under-way : hardenedRun t Undisturbed rounds .status ≡ going
-  pub at-branch : isBranch (hardenedGraph t (hardenedRun t Undisturbed rounds .machine .node)) ≡ true
-  pub this-place : hardenedRun t Undisturbed rounds .machine .branches ≡ place
+-- the undisturbed hardened run makes n steps, and the next one executes the branch at this place
+pub record Executes (j : Subject) (place n : ℕ) : Type 0 where
+  pub steps : runHardened j Undisturbed n .answer .state .steps ≡ n
+  pub before : runHardened j Undisturbed n .answer .state .branches ≡ place
+  pub counted : runHardened j Undisturbed (n + 1) .answer .state .branches ≡ place + 1
 
--- from the branch up to a later round the disturbed run makes no read and no event
-pub record Quiet (t : Trial) (place rounds later : ℕ) : Type 0 where
-  pub no-read : (k : ℕ) → rounds ≤ k → k ≤ later → hardenedRun t (Inverted place) k .machine .reads ≡ hardenedRun t Undisturbed rounds .machine .reads
-  pub no-event : (k : ℕ) → rounds ≤ k → k ≤ later
-      → hardenedRun t (Inverted place) k .machine .events ≡ hardenedRun t Undisturbed rounds .machine .events
-
--- the disturbed run is caught by a later round, and no read or event in between
-pub record CaughtBy (t : Trial) (place rounds later : ℕ) : Type 0 where
-  pub is-caught : hardenedRun t (Inverted place) later .status ≡ ended Caught
-  pub quiet : Quiet t place rounds later
-
--- further steps: those after the inverted one
+-- the further steps, after the inverted one, within which the run is caught; and those after which the excepted run is undisturbed
 abbrev pub soon : ℕ
 soon = 5
 
--- caught within five further steps
-abbrev pub CaughtSoon : Trial → ℕ → ℕ → Type 0
-CaughtSoon t place rounds = CaughtBy t place rounds (rounds + 1 + soon)
+abbrev pub rejoined : ℕ
+rejoined = 2
 
--- two steps after the inverted one, and ever after, exactly the undisturbed run
-abbrev pub Unchanged : Trial → ℕ → ℕ → Type 0
-Unchanged t place rounds = (later : ℕ) → rounds + 1 + 2 ≤ later → hardenedRun t (Inverted place) later ≡ hardenedRun t Undisturbed later
+-- with the branch after n steps inverted, and a budget: caught if five further steps are left, never more of them made, and no read or
+-- event from the branch on
+pub record CaughtSoon (j : Subject) (place n budget : ℕ) : Type 0 where
+  pub is-caught : n + 1 + soon ≤ budget → runHardened j (Inverted place) budget .answer .verdict ≡ Ran Caught
+  pub within : runHardened j (Inverted place) budget .answer .state .steps ≤ n + 1 + soon
+  pub quiet : SameTraffic (runHardened j (Inverted place) budget) (runHardened j Undisturbed n)
 
 -- the two nodes of the hardened graph that make a source branch's test
 pub data TestOf (s : Source) (n : ℕ) : ℕ → Type 0 where
@@ -139,39 +157,32 @@ pub record OneTarget (s : Source) (i : ℕ) : Type 0 where
   pub is-branch : s .graph node ≡ branch comparison left right then else
   pub one-node : then ≡ else
 
--- the second half of demand 3, for the branch that the undisturbed hardened run executes in the round after these: the exception
--- holds just where it is named, and everywhere else the run is caught
-abbrev pub Answered : Trial → ℕ → ℕ → Type 0
-Answered t place rounds =
-    let test = OneTarget (t .source) (hardenedRun t Undisturbed rounds .machine .node) in
-    (test × Unchanged t place rounds) ⊎ ((test → ⊥) × CaughtSoon t place rounds)
+-- the one exception: the branch after n steps is such a node
+abbrev pub Excepted : Subject → ℕ → Type 0
+Excepted j n = OneTarget (sourceIn j) (runHardened j Undisturbed n .answer .state .node)
 
--- ---- budgets and the score
+-- excepted, and with two further steps left all that is answered and written is as undisturbed; or not excepted, and caught
+abbrev pub Answered : Subject → ℕ → ℕ → ℕ → Type 0
+Answered j place n budget =
+    (Excepted j n × (n + 1 + rejoined ≤ budget → runHardened j (Inverted place) budget ≡ runHardened j Undisturbed budget))
+    ⊎ ((Excepted j n → ⊥) × CaughtSoon j place n budget)
 
--- the same of the runs with a budget: with two steps left after the inverted branch the run is the undisturbed one, or with five
--- left it ends caught
-abbrev pub AnsweredWithin : Trial → ℕ → ℕ → ℕ → Type 0
-AnsweredWithin t place rounds budget =
-    let test = OneTarget (t .source) (hardenedRun t Undisturbed rounds .machine .node) in
-    (test × (rounds + 1 + 2 ≤ budget → hardenedRun t (Inverted place) budget ≡ hardenedRun t Undisturbed budget))
-    ⊎ ((test → ⊥) × (rounds + 1 + soon ≤ budget → CaughtBy t place rounds budget))
+-- ---- the statement
 
--- the undisturbed hardened run returns this value within its budget, with five steps to spare
-pub record Returns (t : Trial) (budget value : ℕ) : Type 0 where
-  pub returned : hardenedRun t Undisturbed budget .status ≡ ended (Returned value)
-  pub to-spare : hardenedRun t Undisturbed budget .machine .steps + soon ≤ budget
-
--- the branch at this place is a doubled test whose two targets are one node
-pub record TestAt (t : Trial) (place budget : ℕ) : Type 0 where
-  pub rounds : ℕ
-  pub within : rounds < budget
-  pub executed : Executes t place rounds
-  pub one-target : OneTarget (t .source) (hardenedRun t Undisturbed rounds .machine .node)
-
--- a score in which each position is caught or harmless
-pub record Covered (positions : ℕ) (score : Score) : Type 0 where
-  pub all-tried : score .positions ≡ positions
-  pub caught-or-harmless : score .caught + score .harmless ≡ score .positions
-  pub none-late : score .late ≡ 0
-  pub none-changed : score .changed ≡ 0
-  pub none-unended : score .unended ≡ 0
+-- demand 3 of a subject, a clause a field
+pub record Demand3 (j : Subject) : Type 0 where
+  -- hardening answers R + 2, H and N
+  pub hardens : j .answer ≡ given (hardenedHeader j)
+  -- `run` accepts the hardened graph, with every fault and every budget up to the largest
+  pub runs : (fault : Fault) (budget : ℕ) → budget ≤ mostSteps → (o : Outcome) × (runHardened j fault budget .answer .verdict ≡ Ran o)
+  -- a source that has not ended within its budget s made s steps; the hardened run with budget 1 + s + 4b + 3x has not ended either
+  pub under-way : (s : ℕ) → runSource j s .answer .verdict ≡ Ran Spent → stepsBeside j s ≤ mostSteps
+      → (runSource j s .answer .state .steps ≡ s) × Alike j (stepsBeside j s) s
+  -- a source that has ended; any hardened budget from the steps named on, or for a stop before a step above them
+  pub ended : (s : ℕ) (o : Outcome) → runSource j s .answer .verdict ≡ Ran o → (o ≡ Spent → ⊥)
+      → (budget : ℕ) → stepsBeside j s + stopping o ≤ budget → budget ≤ mostSteps → Alike j budget s
+  -- each place below the branches that the undisturbed hardened run answers is executed in one of its steps
+  pub executes : (place budget : ℕ) → place < runHardened j Undisturbed budget .answer .state .branches
+      → (n : ℕ) × (n < budget) × Executes j place n
+  -- that branch inverted, with any budget from there on
+  pub inverted : (place n : ℕ) → Executes j place n → (budget : ℕ) → n ≤ budget → budget ≤ mostSteps → Answered j place n budget

@@ -1,3 +1,4 @@
 pub mod Demand
+pub mod Trials
 pub mod Agreed
 pub mod OneAnswer

@@ -1,62 +1,52 @@
 -- `bench::campaigns::scored` meets its contract. Assumes nothing.
 use borrow.Author.Needs.{needs}
-use Rattle.bench.specs.Ready.{runEnd}
-use Rattle.bench.proofs.Campaigned.{scored-none, scored-some, reference-made}
+use Rattle.bench.specs.Classes.{endOf}
+use Rattle.bench.proofs.Campaigned.{trial-kept, scored-none, scored-some, asks}
 use Rattle.bench.proofs.campaigns.scored.Statement.{statement}
 use Rattle.bench.proofs.campaigns.scored.Tie as tie
 
-slice-aggregate-whole : tie.Need-slice-aggregate-whole
-slice-aggregate-whole c = search needs
-
-whole-requires : tie.Need-whole-requires
-whole-requires c κs = search needs
-
-enum-known-outcome : tie.Need-enum-known-outcome
-enum-known-outcome c = search needs
-
 returns : tie.Need-returns
-returns c =
-    let trial = c .before .before .whole in
-    scored-none _ _ _ _ _ _ (runEnd (trial .result)) (trial .ensures .0) (c .match .keys2)
+returns c = let trial = c .before .before .one in scored-none _ _ _ _ _ _ (endOf (trial .result)) (trial .ensures .0) (c .match .keys2)
 
-whole-requires-2 : tie.Need-whole-requires-2
-whole-requires-2 c κs = search needs
+refer-requires : tie.Need-refer-requires
+refer-requires c κs =
+    let ran = c .before .before .before .before .before .before in
+    let begin = ran .before .before .before .before .before .before .before in
+    let args = begin .args in
+    (begin .pre .0, trial-kept _ _ (args .first .now) (args .second .now) (args .entry) (args .budget) _ _ 8192 (ran .before .before .blank .ensures) (endOf (ran .one .result)) (ran .one .ensures))
 
-walk-requires : tie.Need-walk-requires
-walk-requires c κs =
-    let start = c .before .before .before .before .before .before .before .before .before .before .before .before .before .before .before .before .before in
-    let made = c .before .before .before .before .before .whole2 in
-    (start .pre .0, reference-made _ _ _ (start .args .second .now) _ _ (runEnd (made .result)) _ (made .ensures) (start .pre .1))
-
-clear-requires : tie.Need-clear-requires
-clear-requires c κs = search needs
-
-same-length : tie.Need-same-length
-same-length c = search needs
-
-same-length-2 : tie.Need-same-length-2
-same-length-2 c = search needs
+make-requires : tie.Need-make-requires
+make-requires c κs =
+    let refers = c .before .before .before .before .before in
+    let ran = refers .before .before .before .before .before .before .before in
+    let begin = ran .before .before .before .before .before .before .before in
+    let args = begin .args in
+    (begin .pre .0, asks _ _ (args .first .now) (args .second .now) (args .entry) (args .budget) (endOf (ran .one .result)) (ran .one .ensures .0) _ (refers .refer .ensures) (begin .pre .1))
 
 returns-2 : tie.Need-returns-2
 returns-2 c =
-    let start = c .before .before .before .before .before .before .before .before .before .before .before .before .before .before .before .before .before .before .before .before .before .before .before .before in
-    let trial = c .before .before .before .before .before .before .before .before .before .before .before .before .before .before .before .before .before .before .whole in
-    let made = c .before .before .before .before .before .before .before .before .before .before .before .before .whole2 in
-    let returned = c .before .before .before .before .before .before .before .before .before .before .before .before .before .before .before .outcome .given .1 in
-    let walk = c .before .before .before .before .before .before .walk in
-    scored-some _ _ _ (start .args .second .now) _ _ (runEnd (made .result)) _ (made .ensures) (runEnd (trial .result)) _ (trial .ensures .0) returned (start .pre .1) _ (walk .ensures) _ _ (walk .kept .1 .1 .1 .1 .0) (c .before .before .clear .ensures)
+    let cleared = c .before .before .before in
+    let made = cleared .before .before .before .before in
+    let refers = made .before .before .before .before .before .before in
+    let ran = refers .before .before .before .before .before .before .before in
+    let begin = ran .before .before .before .before .before .before .before in
+    let returned = refers .before .before .before .before .outcome .given .1 in
+    let args = begin .args in
+    scored-some _ _ (args .first .now) (args .second .now) (args .entry) (args .budget) (endOf (ran .one .result)) (ran .one .ensures .0) _ (refers .refer .ensures) (begin .pre .1) _ returned _ (made .make .ensures .score) _ _ (made .make .kept .1 .1 .1 .1 .0) (cleared .clear .ensures)
 
 pub scored-spec : {M : Type 1} → statement M
 scored-spec =
     tie.close
     (tie.spec
-    slice-aggregate-whole
-    whole-requires
-    enum-known-outcome
+    (λ c κs. search needs)
+    (λ c. search needs)
+    (λ c κs. search needs)
+    (λ c. search needs)
     returns
-    whole-requires-2
-    walk-requires
-    clear-requires
-    same-length
-    same-length-2
+    (λ c. search needs)
+    refer-requires
+    make-requires
+    (λ c κs. search needs)
+    (λ c. search needs)
+    (λ c. search needs)
     returns-2)
