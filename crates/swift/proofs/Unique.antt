@@ -1,31 +1,42 @@
--- Document 01, "What the contracts must shut out": each promise of specs/Promises.antt is met by one answer only, and by one content
--- of each buffer. Where an answer is an enum, its meaning can be taken back, so two answers of one meaning are one.
+-- Document 01, "What the contracts must shut out": the contract of each public function leaves one answer, and one content of each
+-- buffer lent. Each theorem is of the checker's own statement of that contract, `CRATE.PATH.Reads.Post` over the signature
+-- `CRATE.PATH.ended`. Where an answer is an enum, its meaning can be taken back, so two answers of one meaning are one.
+-- To add a public function: a theorem `unique-CRATE-PATH` (`.` and `_` become `-`) with its statement on that one line. A new crate
+-- goes among those that `swift` uses in crates.txt, and has its line `use Rattle.CRATE.proofs as CRATE`. tests/contracts looks for both.
 -- Assumes nothing.
 use Prim.Native.Nat.{ℕ}
 use mathlib.Core.Path.{_≡_, refl, sym, ap, _∙_}
 use mathlib.Core.List.{List, [], _∷_}
 use mathlib.Core.Option.{Option, none, some}
+use native.Mathlib.Omega.{arith}
 use Rattle.words.specs.Answer.{Answer, given, refused}
 use Rattle.words.specs.Number.{readingOf}
 use Rattle.words.specs.declared.Number.{Number}
 use Rattle.graph.specs.Successors.{targetsOf}
 use Rattle.graph.specs.Checks.{checkOf}
 use Rattle.graph.specs.declared.Check.{Check}
-use Rattle.graph.specs.declared.Role.{Role}
 use Rattle.graph.specs.declared.Successors.{Successors}
 use Rattle.file.specs.Reading.{readOf}
 use Rattle.file.specs.declared.Verdict.{Verdict}
 use Rattle.harden.specs.Hardened.{hardeningOf}
 use Rattle.harden.specs.declared.Hardening.{Hardening}
 use Rattle.bench.specs.Campaigns.{campaignOf}
-use Rattle.bench.specs.declared.Fault.{Fault}
 use Rattle.bench.specs.declared.CampaignAnswer.{CampaignAnswer}
 use Rattle.text.specs.Decimals.{decimalOf}
 use Rattle.text.specs.Places.{Wrote}
 use Rattle.text.specs.declared.Decimal.{Decimal}
 use Rattle.desk.specs.Programs.{Print, Shown, printed, complained}
 use Rattle.desk.specs.declared.Printed.{Printed}
-use Rattle.swift.specs.Promises.{OneAnswer, OneBuffer, TwoBuffers, Word, NumberAt, Runnable, Source, RoleAt, FaultOf, Targets, CheckRunnable, CheckSource, Read, Harden, Run, Campaign, Byte, Piece, NumberText, AfterSpace, Spaced, Value, Listed, RunShown, ScoreShown, FileSpace, CellSpace, TextSpace, RunPart, CampaignPart, HardenedNodes}
+use Rattle.words.proofs as words
+use Rattle.graph.proofs as graph
+use Rattle.file.proofs as file
+use Rattle.harden.proofs as harden
+use Rattle.bench.proofs as bench
+use Rattle.text.proofs as text
+use Rattle.desk.proofs as desk
+use Rattle.console.proofs as console
+use Rattle.yardstick.proofs as yardstick
+use Rattle.swift.specs.OneAnswer.{OneAnswer, TwoAnswers}
 
 -- ---- two answers of one meaning are one
 
@@ -39,6 +50,10 @@ Injective {A} f = (r s : A) → f r ≡ f s → r ≡ s
 -- a meaning that can be taken back
 taken-back : {A B : Type 0} (f : A → B) (back : B → A) → ((a : A) → back (f a) ≡ a) → Injective f
 taken-back f back undone r s e = sym (undone r) ∙ ap back e ∙ undone s
+
+-- two answers of one meaning
+meant : {A B : Type 0} {f : A → B} {y : B} {r s : A} → Injective f → f r ≡ y → f s ≡ y → r ≡ s
+meant {r} {s} injective p q = injective r s (same p q)
 
 -- the case of an enum for a value, or for a refusal
 abbrev caseOf : {A B : Type 0} → (A → B) → (ℕ → ℕ → B) → Answer A → B
@@ -89,7 +104,14 @@ caseFor none = Decimal.Other
 pub decimalOf-injective : Injective decimalOf
 decimalOf-injective = taken-back decimalOf caseFor λ r. elim r [ Decimal.Value n ↦ refl | Decimal.Other ↦ refl ]
 
--- ---- what is written
+-- ---- answer and buffers, one after the other
+
+both : {A B : Type 0} {v w : A × B} → v .0 ≡ w .0 → v .1 ≡ w .1 → v ≡ w
+both p q = λ i. (p i, q i)
+
+-- a parameter that is not lent leaves nothing to compare
+past : {A : Type 0} {v w : Unit {0} × A} → v .1 ≡ w .1 → v ≡ w
+past q = both refl q
 
 -- the place after a text, and the buffer
 wrote-one : {before text : List ℕ} {at r s : ℕ} {x y : List ℕ} → Wrote before at text x r → Wrote before at text y s → (r ≡ s) × (x ≡ y)
@@ -102,109 +124,123 @@ shown-one (complained p) (complained q) = let (sizes, texts) = wrote-one p q in 
 
 -- ---- words
 
-pub unique-word : (words : List ℕ) (i : ℕ) → OneAnswer (Word words i)
-unique-word words i r s p q = same p q
+pub unique-words-word : OneAnswer words.word.ended words.word.Reads.Post
+unique-words-word κs a o u p q = both (same p q) refl
 
-pub unique-number-at : (bytes : List ℕ) (at : ℕ) → OneAnswer (NumberAt bytes at)
-unique-number-at bytes at r s p q = readingOf-injective r s (same p q)
+pub unique-words-number-at : OneAnswer words.number_at.ended words.number_at.Reads.Post
+unique-words-number-at κs a o u p q = both (meant readingOf-injective p q) refl
 
 -- ---- graph
 
-pub unique-runnable : OneAnswer Runnable
-unique-runnable r s p q = same p q
+pub unique-graph-Limits-runnable : OneAnswer graph.Limits.runnable.ended graph.Limits.runnable.Reads.Post
+unique-graph-Limits-runnable κs a o u p q = both (same p q) refl
 
-pub unique-source : OneAnswer Source
-unique-source r s p q = same p q
+pub unique-graph-Limits-source : OneAnswer graph.Limits.source.ended graph.Limits.source.Reads.Post
+unique-graph-Limits-source κs a o u p q = both (same p q) refl
 
-pub unique-role-at : (kind word : ℕ) → OneAnswer (RoleAt kind word)
-unique-role-at kind word r s p q = same p q
+pub unique-graph-role-at : OneAnswer graph.role_at.ended graph.role_at.Reads.Post
+unique-graph-role-at κs a o u p q = both (same p q) refl
 
-pub unique-fault : (kinds registers nodes : ℕ) (role : Role) (word : ℕ) → OneAnswer (FaultOf kinds registers nodes role word)
-unique-fault kinds registers nodes role word r s p q = same p q
+pub unique-graph-fault : OneAnswer graph.fault.ended graph.fault.Reads.Post
+unique-graph-fault κs a o u p q = both (same p q) refl
 
-pub unique-targets : (table : List ℕ) (node : ℕ) → OneAnswer (Targets table node)
-unique-targets table node r s p q = targetsOf-injective r s (same p q)
+pub unique-graph-targets : OneAnswer graph.targets.ended graph.targets.Reads.Post
+unique-graph-targets κs a o u p q = both (meant targetsOf-injective p q) refl
 
-module _ (registers nodes entry : ℕ) (table : List ℕ) where
-  pub unique-check-runnable : OneAnswer (CheckRunnable registers nodes entry table)
-  unique-check-runnable r s p q = checkOf-injective r s (same p q)
+pub unique-graph-check-runnable : OneAnswer graph.check_runnable.ended graph.check_runnable.Reads.Post
+unique-graph-check-runnable κs a o u p q = both (meant checkOf-injective p q) refl
 
-  pub unique-check-source : OneAnswer (CheckSource registers nodes entry table)
-  unique-check-source r s p q = checkOf-injective r s (same p q)
+pub unique-graph-check-source : OneAnswer graph.check_source.ended graph.check_source.Reads.Post
+unique-graph-check-source κs a o u p q = both (meant checkOf-injective p q) refl
 
 -- ---- file
 
-pub unique-read : (bytes table : List ℕ) → OneBuffer (Read bytes table)
-unique-read bytes table r s x y p q = (readOf-injective r s (same (p .0) (q .0)), same (p .1) (q .1))
+pub unique-file-read : OneAnswer file.read.ended file.read.Reads.Post
+unique-file-read κs a o u p q = both (meant readOf-injective (p .0) (q .0)) (past (both (same (p .1) (q .1)) refl))
 
 -- ---- harden
 
-pub unique-harden : (registers nodes entry : ℕ) (table out : List ℕ) → OneBuffer (Harden registers nodes entry table out)
-unique-harden registers nodes entry table out r s x y p q =
-    (hardeningOf-injective r s (same (p .0) (q .0)), same (p .1) (q .1))
+pub unique-harden-harden : OneAnswer harden.harden.ended harden.harden.Reads.Post
+unique-harden-harden κs a o u p q =
+    both (meant hardeningOf-injective (p .0) (q .0)) (past (past (past (past (both (same (p .1) (q .1)) refl)))))
 
 -- ---- bench
 
-module _ (registers nodes entry : ℕ) (table inputs : List ℕ) where
-  pub unique-run : (events : List ℕ) (budget : ℕ) (fault : Fault) → OneBuffer (Run registers nodes entry table inputs events budget fault)
-  unique-run events budget fault r s x y p q = (same (p .0) (q .0), same (p .1) (q .1))
+pub unique-bench-run : OneAnswer bench.run.ended bench.run.Reads.Post
+unique-bench-run κs a o u p q = both (same (p .0) (q .0)) (past (past (past (past (past (both (same (p .1) (q .1)) refl))))))
 
-  pub unique-campaign : (first second : List ℕ) (budget : ℕ) → TwoBuffers (Campaign registers nodes entry table inputs first second budget)
-  unique-campaign first second budget r s x y v w p q =
-      (campaignOf-injective r s (same (p .0) (q .0)), same (p .1) (q .1), same (p .2) (q .2))
+pub unique-bench-campaign : OneAnswer bench.campaign.ended bench.campaign.Reads.Post
+unique-bench-campaign κs a o u p q =
+    both (meant campaignOf-injective (p .0) (q .0))
+    (past (past (past (past (past (both (same (p .1 .0) (q .1 .0)) (both (same (p .1 .1) (q .1 .1)) refl)))))))
 
 -- ---- text
 
-pub unique-byte : (out : List ℕ) (at b : ℕ) → OneBuffer (Byte out at b)
-unique-byte out at b r s x y p q = wrote-one p q
+pub unique-text-byte : OneAnswer text.byte.ended text.byte.Reads.Post
+unique-text-byte κs a o u p q = let (places, texts) = wrote-one p q in both places (both texts refl)
 
-pub unique-piece : (out : List ℕ) (at : ℕ) (text : List ℕ) → OneBuffer (Piece out at text)
-unique-piece out at text r s x y p q = wrote-one p q
+pub unique-text-piece : OneAnswer text.piece.ended text.piece.Reads.Post
+unique-text-piece κs a o u p q = let (places, texts) = wrote-one p q in both places (both texts refl)
 
-pub unique-number : (out : List ℕ) (at n : ℕ) → OneBuffer (NumberText out at n)
-unique-number out at n r s x y p q = wrote-one p q
+pub unique-text-number : OneAnswer text.number.ended text.number.Reads.Post
+unique-text-number κs a o u p q = let (places, texts) = wrote-one p q in both places (both texts refl)
 
-pub unique-after-space : (out : List ℕ) (at n : ℕ) → OneBuffer (AfterSpace out at n)
-unique-after-space out at n r s x y p q = wrote-one p q
+pub unique-text-after-space : OneAnswer text.after_space.ended text.after_space.Reads.Post
+unique-text-after-space κs a o u p q = let (places, texts) = wrote-one p q in both places (both texts refl)
 
-pub unique-spaced : (out : List ℕ) (at : ℕ) (words : List ℕ) → OneBuffer (Spaced out at words)
-unique-spaced out at words r s x y p q = wrote-one p q
+pub unique-text-spaced : OneAnswer text.spaced.ended text.spaced.Reads.Post
+unique-text-spaced κs a o u p q = let (places, texts) = wrote-one p q in both places (both texts refl)
 
-pub unique-value : (text : List ℕ) → OneAnswer (Value text)
-unique-value text r s p q = decimalOf-injective r s (same p q)
+pub unique-text-value : OneAnswer text.value.ended text.value.Reads.Post
+unique-text-value κs a o u p q = both (meant decimalOf-injective p q) refl
 
 -- ---- desk
 
-pub unique-list : (bytes text : List ℕ) → OneBuffer (Listed bytes text)
-unique-list bytes text r s x y p q = wrote-one p q
+pub unique-desk-list : OneAnswer desk.list.ended desk.list.Reads.Post
+unique-desk-list κs a o u p q = let (sizes, texts) = wrote-one p q in both sizes (past (both texts refl))
 
-module _ (cells bytes text : List ℕ) where
-  pub unique-run-shown : OneBuffer (RunShown cells bytes text)
-  unique-run-shown r s x y p q = shown-one p q
+pub unique-desk-run : OneAnswer desk.run.ended desk.run.Reads.Post
+unique-desk-run κs a o u p q = let (prints, texts) = shown-one p q in both prints (past (past (both texts refl)))
 
-  pub unique-score-shown : OneBuffer (ScoreShown cells bytes text)
-  unique-score-shown r s x y p q = shown-one p q
+pub unique-desk-score : OneAnswer desk.score.ended desk.score.Reads.Post
+unique-desk-score κs a o u p q = let (prints, texts) = shown-one p q in both prints (past (past (both texts refl)))
 
 -- ---- console
 
-pub unique-file-space : OneAnswer FileSpace
-unique-file-space r s p q = same p q
+pub unique-console-file-space : OneAnswer console.file_space.ended console.file_space.Reads.Post
+unique-console-file-space κs a o u p q = both (same p q) refl
 
-pub unique-cell-space : OneAnswer CellSpace
-unique-cell-space r s p q = same p q
+pub unique-console-cell-space : OneAnswer console.cell_space.ended console.cell_space.Reads.Post
+unique-console-cell-space κs a o u p q = both (same p q) refl
 
-pub unique-text-space : OneAnswer TextSpace
-unique-text-space r s p q = same p q
+pub unique-console-text-space : OneAnswer console.text_space.ended console.text_space.Reads.Post
+unique-console-text-space κs a o u p q = both (same p q) refl
+
+-- the operating system says what the arguments are, so their contract is only a bound: with one byte lent, 0 and 1 both keep it
+pub open-console-arguments : TwoAnswers console.arguments.ended console.arguments.Reads.Post
+open-console-arguments κs =
+    let lent : List ℕ = 0 ∷ [] in
+    ((record { ptr = (0, 0); name = 0; now = lent }, tt), (0, (lent, tt)), (1, (lent, tt)), omega arith, omega arith, λ e. omega (arith, e))
 
 -- ---- yardstick
 
-module _ (registers nodes entry : ℕ) (table : List ℕ) where
-  pub unique-run-part : (inputs events : List ℕ) (budget part : ℕ) → OneBuffer (RunPart registers nodes entry table inputs events budget part)
-  unique-run-part inputs events budget part r s x y p q = (same (p .0) (q .0), same (p .1) (q .1))
+pub unique-yardstick-yardstick-read : OneAnswer yardstick.yardstick_read.ended yardstick.yardstick_read.Reads.Post
+unique-yardstick-yardstick-read κs a o u p q = both (same (p .0) (q .0)) (past (both (same (p .1) (q .1)) refl))
 
-  pub unique-campaign-part : (inputs first second : List ℕ) (budget part : ℕ)
-      → TwoBuffers (CampaignPart registers nodes entry table inputs first second budget part)
-  unique-campaign-part inputs first second budget part r s x y v w p q = (same (p .0) (q .0), same (p .1) (q .1), same (p .2) (q .2))
+pub unique-yardstick-yardstick-check-runnable : OneAnswer yardstick.yardstick_check_runnable.ended yardstick.yardstick_check_runnable.Reads.Post
+unique-yardstick-yardstick-check-runnable κs a o u p q = both (same p q) refl
 
-  pub unique-hardened-nodes : (out : List ℕ) → OneBuffer (HardenedNodes registers nodes entry table out)
-  unique-hardened-nodes out r s x y p q = (same (p .0) (q .0), same (p .1) (q .1))
+pub unique-yardstick-yardstick-check-source : OneAnswer yardstick.yardstick_check_source.ended yardstick.yardstick_check_source.Reads.Post
+unique-yardstick-yardstick-check-source κs a o u p q = both (same p q) refl
+
+pub unique-yardstick-yardstick-run : OneAnswer yardstick.yardstick_run.ended yardstick.yardstick_run.Reads.Post
+unique-yardstick-yardstick-run κs a o u p q =
+    both (same (p .0) (q .0)) (past (past (past (past (past (both (same (p .1) (q .1)) refl))))))
+
+pub unique-yardstick-yardstick-campaign : OneAnswer yardstick.yardstick_campaign.ended yardstick.yardstick_campaign.Reads.Post
+unique-yardstick-yardstick-campaign κs a o u p q =
+    both (same (p .0) (q .0))
+    (past (past (past (past (past (both (same (p .1 .0) (q .1 .0)) (both (same (p .1 .1) (q .1 .1)) refl)))))))
+
+pub unique-yardstick-yardstick-harden : OneAnswer yardstick.yardstick_harden.ended yardstick.yardstick_harden.Reads.Post
+unique-yardstick-yardstick-harden κs a o u p q = both (same (p .0) (q .0)) (past (past (past (past (both (same (p .1) (q .1)) refl)))))

@@ -1,4 +1,4 @@
 pub mod Demand
 pub mod Trials
 pub mod Agreed
-pub mod Promises
+pub mod OneAnswer
