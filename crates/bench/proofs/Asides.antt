@@ -4,7 +4,7 @@
 use mathlib.Core.Path.{_≡_, refl, sym, ap, _∙_, subst}
 use mathlib.Core.Logic.{_⊎_, inl, inr}
 use mathlib.Core.Bool.{Bool, true, false, _&&_}
-use mathlib.Core.List.{List, [], _++_}
+use mathlib.Core.List.{List, []}
 use Prim.Native.Nat.{ℕ, _+_, _-_, _%_, _≤_, _<_}
 use native.Mathlib.Nat.{mod-eq-of-lt}
 use native.Mathlib.Decide.{decLt}
@@ -19,7 +19,7 @@ use Rattle.graph.specs.Nodes.{nodeAt}
 use Rattle.bench.specs.Steps.{Machine, Setting, going, ended, Progress, at, start}
 use Rattle.bench.specs.Effects.{effectOf, effectFrom, eventWords, hasRoom, statusAfter, applied, machineOf}
 use Rattle.bench.specs.Runs.{runOf, settled, stateOf}
-use Rattle.bench.specs.Ready.{End, Ends, Ready, settingOf, endedOf, endedWith}
+use Rattle.bench.specs.Ready.{End, Ends, Ready, settingOf, endedWith}
 use Rattle.bench.specs.Campaigns.{Class, classOf, classAt, prefixOf, tallied, noScore, scoreBelow}
 use Rattle.bench.specs.Classes.{Asked, Referred, Makes, classBy}
 use Rattle.bench.proofs.Bounds.{within}

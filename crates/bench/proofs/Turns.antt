@@ -2,10 +2,8 @@
 -- Assumes nothing.
 use mathlib.Core.Path.{_≡_, refl, sym, ap, _∙_}
 use mathlib.Core.Bool.{Bool, true, false, cond}
-use mathlib.Core.Logic.{_⊎_, inl, inr}
 use mathlib.Core.List.{List, _++_}
 use Prim.Native.Nat.{ℕ, _+_, _-_, _≤_, _<_}
-use native.Mathlib.Nat.{sub-self}
 use native.Mathlib.Omega.{arith}
 use lib.ListN.{length, getD, take, drop, length-set, length-append, take-append-drop}
 use lib.Seq.{length-take-le}
@@ -20,7 +18,7 @@ use Rattle.bench.specs.Runs.{next, after, settled}
 use Rattle.bench.specs.Ready.{End, Ends, Ready, settingOf}
 use Rattle.bench.proofs.Bounds.{Counts, counts}
 use Rattle.bench.proofs.Effects.{followed, step-effect}
-use Rattle.bench.proofs.Rounds.{after-none, after-more, next-going, ended-stays}
+use Rattle.bench.proofs.Rounds.{after-more, next-going, ended-stays}
 use Rattle.bench.specs.declared.Fault.{Fault}
 use Rattle.bench.specs.declared.State.{State}
 use Rattle.bench.specs.declared.Outcome.{Outcome}

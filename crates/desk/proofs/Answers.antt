@@ -2,8 +2,8 @@
 -- Assumes nothing.
 use mathlib.Core.Path.{_≡_, refl, sym, ap, _∙_}
 use mathlib.Core.Bool.{Bool, true, false}
-use mathlib.Core.List.{List, [], _∷_, _++_}
-use Prim.Native.Nat.{ℕ, zero, suc, _+_, _*_, _/_, _≤_}
+use mathlib.Core.List.{List}
+use Prim.Native.Nat.{ℕ, zero, _+_, _*_, _/_, _≤_}
 use native.Mathlib.Omega.{arith}
 use lib.ListN.{length, take, drop, replicate, length-replicate}
 use lib.Dec.{leb}
@@ -12,7 +12,7 @@ use lib.Seq.{take-at}
 use Rattle.text.specs.Places.{Wrote}
 use Rattle.words.specs.Answer.{Answer, given, refused, demand, andThen, written}
 use Rattle.words.specs.Buffer.{over, put}
-use Rattle.words.proofs.Puts.{put-over, length-put}
+use Rattle.words.proofs.Puts.{put-over}
 use Rattle.graph.specs.Checks.{runnableCheck, sourceCheck}
 use Rattle.graph.specs.Nodes.{nodeAt}
 use Rattle.graph.specs.declared.Header.{Header}

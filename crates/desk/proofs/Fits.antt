@@ -44,7 +44,7 @@ use Rattle.desk.specs.declared.Words.the-variants.{All, Bad}
 use Rattle.desk.specs.declared.Mode.{Mode}
 use Rattle.desk.specs.declared.Mode.the-variants.{Plain, Hardened, Unknown}
 use Rattle.desk.specs.Arguments.{argument, modeOf, mostRoom, numbersOf, settingsBy, settingsOf, RoomIn, faultOf, wordOf, wordsOf, wordsIn}
-use Rattle.desk.specs.Lines.{line, refusalLine, outcomeText, countsText, runText, scoreLine, complaintLine}
+use Rattle.desk.specs.Lines.{refusalLine, outcomeText, countsText, runText, scoreLine, complaintLine}
 use Rattle.desk.specs.Listing.{rowLine, rowLines, listing}
 use Rattle.desk.specs.Programs.{tableWords, Graph, readGraph, hardenGraph, graphIn, textOf, listText, runOn, progressText, runPrint, scoreOn, scorePrint, Print, output, complaint, withWords, withFault, runWith, runProgram, scoreWith, scoreProgram, textBytes, printOf, Shown, printed, complained}
 use Rattle.desk.proofs.Answers.{harden-room}

@@ -1,10 +1,9 @@
 -- What each program prints for its arguments and the bytes on standard input.
 -- Assumes nothing.
-use Prim.Native.Nat.{ℕ, _+_, _-_, _*_}
-use mathlib.Core.Bool.{Bool, true, false, cond}
-use mathlib.Core.List.{List, [], _∷_, _++_}
-use lib.ListN.{length, take, replicate}
-use lib.Dec.{eqb, ltb, leb}
+use Prim.Native.Nat.{ℕ}
+use mathlib.Core.Bool.{Bool, true, false}
+use mathlib.Core.List.{List}
+use lib.ListN.{take, replicate}
 use Rattle.words.specs.Answer.{Answer, given, refused, andThen}
 use Rattle.graph.specs.declared.Header.{Header}
 use Rattle.file.specs.Reading.{readAnswer, readTable}
