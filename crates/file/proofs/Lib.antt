@@ -7,9 +7,10 @@ pub mod Refusals
 pub mod Sizes
 pub mod InOrder
 pub mod Accepted
-pub mod Written
+pub mod Taking
 pub mod Runnable
 pub mod Reader
 pub mod Cuts
 pub mod Words
+pub mod Writes
 pub mod Vectors

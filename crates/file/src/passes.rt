@@ -1,4 +1,4 @@
-// The two passes over a file: the first checks and writes nothing, the second writes what was checked.
+// The two passes of reading a file: the first checks and writes nothing, the second takes what was checked.
 use super::Verdict;
 use super::numbers;
 use graph::Header;
@@ -79,8 +79,8 @@ pub fn check(bytes: &[u8], room: usize) -> Number
     check_body(bytes, r as usize, n as usize, at_entry)
 }
 
-// Writes so many words of nodes into the front of the table.
-pub fn write_cells(bytes: &[u8], words: usize, first: usize, table: &mut [u32])
+// Takes so many words of nodes into the front of the table.
+pub fn take_cells(bytes: &[u8], words: usize, first: usize, table: &mut [u32])
     requires { ⌜ words ≤ length (now table) ⌝ }
     ensures { λ _. ⌜ now (table .exit) ≡ put (now (table .entry)) 0 (takenFrom (now (bytes .entry)) words 0 0 first) ⌝ }
 {
@@ -98,7 +98,7 @@ pub fn write_cells(bytes: &[u8], words: usize, first: usize, table: &mut [u32])
 }
 
 // An accepted file: its words into the table, and its R, N and entry.
-pub fn write(bytes: &[u8], table: &mut [u32]) -> Verdict
+pub fn take(bytes: &[u8], table: &mut [u32]) -> Verdict
     requires { ⌜ passed (contentsOf (now bytes) (length (now table))) ≡ given tt ⌝ }
     ensures { λ r. ⌜ readOf r ≡ readAnswer (now (bytes .entry)) (length (now (table .entry))) ⌝ }
     ensures { λ _. ⌜ now (table .exit) ≡ readTable (now (bytes .entry)) (now (table .entry)) ⌝ }
@@ -109,7 +109,7 @@ pub fn write(bytes: &[u8], table: &mut [u32]) -> Verdict
     let registers = r.value as usize;
     let nodes = n.value as usize;
     let entry = e.value as usize;
-    write_cells(bytes, 6 * nodes, e.next, table);
+    take_cells(bytes, 6 * nodes, e.next, table);
     Verdict::Graph(Header {
         registers,
         nodes,

@@ -5,4 +5,6 @@ pub mod Ways
 pub mod Answers
 pub mod AllWords
 pub mod Numbers
+pub mod Shortest
+pub mod Forms
 pub mod Vectors

@@ -3,6 +3,7 @@
 use mathlib.Core.Path.{_≡_, refl, sym, ap, _∙_}
 use Prim.Native.Nat.{ℕ, suc, _+_, _≤_}
 use native.Mathlib.Nat.{add-zero, add-suc, suc-add, zero-add}
+use native.Mathlib.Numerals.{add-one}
 use mathlib.Core.List.{List, [], _∷_, _++_}
 use lib.ListN.{length, drop, set}
 use lib.Seq.{sets, sets-eq, length-sets}
@@ -16,6 +17,11 @@ put-nil l i = refl
 pub put-one : (l : List ℕ) (i w : ℕ) → put l i (w ∷ []) ≡ set l i w
 unfolding put
 put-one l i w = refl
+
+-- the first word, then the others after it
+pub put-more : (l : List ℕ) (i w : ℕ) (ws : List ℕ) → put l i (w ∷ ws) ≡ put (set l i w) (i + 1) ws
+unfolding put
+put-more l i w ws = rw (add-one i)
 
 pub length-put : (l : List ℕ) (i : ℕ) (ws : List ℕ) → length (put l i ws) ≡ length l
 unfolding put

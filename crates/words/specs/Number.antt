@@ -1,8 +1,8 @@
 -- Document 01, "The file": numbers in groups of seven bits, the least significant group first.
 -- Assumes nothing.
-use Prim.Native.Nat.{ℕ, zero, suc, _+_, _*_, _%_}
+use Prim.Native.Nat.{ℕ, zero, suc, _+_, _*_, _/_, _%_}
 use mathlib.Core.Bool.{cond, _||_, _&&_}
-use mathlib.Core.List.{List}
+use mathlib.Core.List.{List, [], _∷_}
 use lib.ListN.{getD}
 use lib.Dec.{eqb, ltb}
 use Rattle.words.specs.Answer.{Answer, given, refused, demand}
@@ -46,3 +46,14 @@ groups bytes place (suc more) at =
 -- the number that begins at a position: at most five bytes
 unfoldable pub numberAt : List ℕ → ℕ → Answer Reading
 numberAt bytes at = groups bytes at 4 at
+
+-- the shortest form of a value when `more` bytes may follow the first: seven bits a byte, the high bit set on all but the last
+unfoldable pub shortest : ℕ → ℕ → List ℕ
+shortest zero value = value ∷ []
+shortest (suc more) value =
+    let longer = (128 + value % 128) ∷ shortest more (value / 128) in
+    cond (ltb value 128) (value ∷ []) longer
+
+-- the bytes of a number: at most five
+unfoldable pub numberOf : ℕ → List ℕ
+numberOf value = shortest 4 value

@@ -2,7 +2,8 @@
 use super::Number;
 ghost use mathlib.Core.Path.{_≡_};
 ghost use mathlib.Core.Bool.{_||_, _&&_};
-ghost use Prim.Native.Nat.{_≤_};
+ghost use Prim.Native.Nat.{_+_, _≤_};
+ghost use lib.ListN.{set};
 ghost use lib.Dec.{eqb, ltb};
 ghost use Rattle.words.specs.Answer.{demand};
 ghost use Rattle.words.specs.Number.{byteAt, reading, readingOf, groups};
@@ -67,4 +68,16 @@ pub fn group(bytes: &[u8], place: usize, more: usize, at: usize) -> Number
         return rest;
     };
     Number::Value(byte % 128 + 128 * value, end)
+}
+
+// Stores a byte so many places behind another; past the end it is lost.
+pub fn store(out: &mut [u8], at: usize, behind: usize, byte: u8)
+    ensures { λ _. ⌜ now (out .exit) ≡ set (now (out .entry)) (at + behind) byte ⌝ }
+{
+    if out.len() <= at {
+        return;
+    }
+    if behind < out.len() - at {
+        out[at + behind] = byte;
+    }
 }

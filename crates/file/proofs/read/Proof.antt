@@ -1,6 +1,6 @@
--- `file::read` meets its contract: the first pass decides, the second writes what is accepted. Assumes nothing.
+-- `file::read` meets its contract: the first pass decides, the second takes what is accepted. Assumes nothing.
 use denote.Ref.{now}
-use Rattle.file.proofs.Written.{check-passed, refused-answer, refused-table}
+use Rattle.file.proofs.Taking.{check-passed, refused-answer, refused-table}
 use borrow.Author.Needs.{needs}
 use Rattle.file.proofs.read.Statement.{statement}
 use Rattle.file.proofs.read.Tie as tie
@@ -11,8 +11,8 @@ check-requires c κs = search needs
 enum-told : tie.Need-enum-told
 enum-told c = search needs
 
-write-requires : tie.Need-write-requires
-write-requires c κs = check-passed _ _ _ _ (c .before .enum-told .given .1) (c .before .before .before .check .ensures)
+take-requires : tie.Need-take-requires
+take-requires c κs = check-passed _ _ _ _ (c .before .enum-told .given .1) (c .before .before .before .check .ensures)
 
 enum-known-answer : tie.Need-enum-known-answer
 enum-known-answer c = search needs
@@ -32,7 +32,7 @@ read-spec =
     (tie.spec
     check-requires
     enum-told
-    write-requires
+    take-requires
     enum-known-answer
     same-length
     returns

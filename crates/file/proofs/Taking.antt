@@ -48,16 +48,16 @@ module _ (bytes table : List ℕ) (ok : passed (contentsOf bytes (length table))
     entry-is : entry ≡ record { value = accepted .e .value; next = accepted .e .next }
     entry-is = taken bytes (accepted .n .next) (nodes .next) entry (accepted .e) e (ap (λ (t : Taken). t .next) nodes-are) (accepted .entry .is)
 
-    pub write-room : 6 * nodes .value ≤ length table
-    write-room = omega (arith, ap (λ (t : Taken). t .value) nodes-are, accepted .room-for)
+    pub take-room : 6 * nodes .value ≤ length table
+    take-room = omega (arith, ap (λ (t : Taken). t .value) nodes-are, accepted .room-for)
 
-    pub write-answer : given (record { registers = registers .value; nodes = nodes .value; entry = entry .value }) ≡ readAnswer bytes (length table)
+    pub take-answer : given (record { registers = registers .value; nodes = nodes .value; entry = entry .value }) ≡ readAnswer bytes (length table)
     unfolding readAnswer
-    write-answer = rw (contents .1, registers-are, nodes-are, entry-is) (sym (ap given (accepted .header)))
+    take-answer = rw (contents .1, registers-are, nodes-are, entry-is) (sym (ap given (accepted .header)))
 
-    pub write-table : put table 0 (takenFrom bytes (6 * nodes .value) 0 0 (entry .next)) ≡ readTable bytes table
+    pub take-table : put table 0 (takenFrom bytes (6 * nodes .value) 0 0 (entry .next)) ≡ readTable bytes table
     unfolding readTable
-    write-table =
+    take-table =
         let fits : length (contents .0 .words) ≤ length table = omega (arith, in-order-length bytes _ _ (accepted .words), accepted .room-for) in
         rw (contents .1, nodes-are, entry-is, in-order-taken bytes (accepted .r .value) (accepted .n .value) (accepted .words)) (put-over table (contents .0 .words) fits)
 

@@ -1,4 +1,4 @@
--- `file::passes::write_cells` meets its contract. The loop's invariant: the words from the first on, put into the table
+-- `file::passes::take_cells` meets its contract. The loop's invariant: the words from the first on, put into the table
 -- that was lent, are the words from i on put into the table as it is. Assumes nothing.
 use mathlib.Core.Path.{_≡_, refl, sym, _∙_}
 use Prim.Native.Nat.{_-_, _≤_}
@@ -9,8 +9,8 @@ use lib.ListN.{length, length-set}
 use Rattle.words.specs.Buffer.{put}
 use Rattle.file.specs.Passes.{takenFrom}
 use Rattle.file.proofs.Walks.{taken-more, taken-none}
-use Rattle.file.proofs.passes.write_cells.Statement.{statement}
-use Rattle.file.proofs.passes.write_cells.Tie as tie
+use Rattle.file.proofs.passes.take_cells.Statement.{statement}
+use Rattle.file.proofs.passes.take_cells.Tie as tie
 
 abbrev Inv-loop : tie.InvT-loop
 Inv-loop bytes words first table₀ i₀ kind₀ at₀ table i kind at = (i ≤ words) × (length table ≡ length table₀) × (put table₀ 0 (takenFrom bytes words 0 0 first) ≡ put table i (takenFrom bytes (words - i) i kind at))
@@ -51,8 +51,8 @@ same-length c = c .before .loop .inv .1
 returns : tie.Need-returns Inv-loop μ-loop
 returns c = sym (c .before .loop .inv .2 ∙ taken-none _ _ _ _ _ _ (c .loop-test .left))
 
-pub write-cells-spec : {M : Type 1} → statement M
-write-cells-spec =
+pub take-cells-spec : {M : Type 1} → statement M
+take-cells-spec =
     tie.close
     (tie.spec
     Inv-loop
