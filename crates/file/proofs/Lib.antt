@@ -13,4 +13,7 @@ pub mod Reader
 pub mod Cuts
 pub mod Words
 pub mod Writes
+pub mod OneForm
+pub mod ReadBack
+pub mod Writer
 pub mod Vectors

@@ -18,13 +18,13 @@ use Rattle.file.proofs.Accepted.{Accepted, contents-law}
 use Rattle.file.proofs.Runnable.{accepted-runnable}
 
 -- an answer of the reader comes from the file's contents
-record Contained (bytes : List ℕ) (room : ℕ) (header : Header) : Type 0 where
-  contents : Contents
-  is : contentsOf bytes room ≡ given contents
-  accepted : Accepted bytes room contents
-  same : contents .header ≡ header
+pub record Contained (bytes : List ℕ) (room : ℕ) (header : Header) : Type 0 where
+  pub contents : Contents
+  pub is : contentsOf bytes room ≡ given contents
+  pub accepted : Accepted bytes room contents
+  pub same : contents .header ≡ header
 
-answer-law : (bytes : List ℕ) (room : ℕ) → Of (Contained bytes room) Refusal (readAnswer bytes room)
+pub answer-law : (bytes : List ℕ) (room : ℕ) → Of (Contained bytes room) Refusal (readAnswer bytes room)
 unfolding readAnswer
 answer-law bytes room =
     of-then _ (contents-law bytes room) λ c e a. of-given (record { contents = c; is = e; accepted = a; same = refl })

@@ -67,7 +67,7 @@ six-words l i h =
     (word-next l (i + 5) (i + 6) 0 (omega arith) (omega arith))))))
 
 module _ (registers nodes entry : ℕ) (table : List ℕ) where
-  runnable-passed : runnableCheck registers nodes entry table ≡ given tt → Passed runnable registers nodes entry table
+  pub runnable-passed : runnableCheck registers nodes entry table ≡ given tt → Passed runnable registers nodes entry table
   unfolding runnableCheck
   runnable-passed e = table-passed runnable registers nodes entry table e
 
