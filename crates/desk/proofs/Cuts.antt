@@ -11,10 +11,11 @@ use lib.Seq.{take-all}
 use Rattle.file.proofs.Cuts.{answer-take, table-take}
 use Rattle.desk.specs.declared.Choice.{Choice}
 use Rattle.desk.specs.declared.Choice.the-variants.{Chosen, Other}
+use Rattle.desk.specs.declared.FileMode.{FileMode}
 use Rattle.desk.specs.declared.Settings.{Settings}
 use Rattle.desk.specs.declared.Settings.the-variants.{Ready, Wrong}
-use Rattle.desk.specs.Arguments.{argument, settingsOf, faultOf, wordsIn}
-use Rattle.desk.specs.Programs.{tableWords, readGraph, graphIn, listText, runPrint, scorePrint, withWords, withFault, runWith, runProgram, scoreWith, scoreProgram}
+use Rattle.desk.specs.Arguments.{argument, settingsOf, faultOf, fileModeOf, wordsIn}
+use Rattle.desk.specs.Programs.{tableWords, readGraph, graphIn, listText, runPrint, scorePrint, withWords, withFault, runWith, runProgram, scoreWith, scoreProgram, fileWith, fileProgram}
 
 module _ (bytes : List ℕ) where
   abbrev front : List ℕ
@@ -63,3 +64,12 @@ module _ (bytes : List ℕ) where
         by : (settings : Settings) → scoreWith cells settings front ≡ scoreWith cells settings bytes
         by (Ready hardened budget room) = ap (withWords cells 3 (wordsIn cells 3)) (fun-ext (λ inputs. rw (graph-cut hardened)))
         by (Wrong wanted) = refl
+
+    -- `hfile`
+    pub file-cut : (room : ℕ) → fileProgram room cells front ≡ fileProgram room cells bytes
+    unfolding fileProgram
+    file-cut room = by (fileModeOf cells)
+      where
+        by : (mode : FileMode) → fileWith room mode front ≡ fileWith room mode bytes
+        by (FileMode.Ready hardened) = rw (graph-cut hardened)
+        by (FileMode.Wrong wanted) = refl

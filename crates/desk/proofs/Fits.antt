@@ -17,6 +17,8 @@ use Rattle.graph.specs.Nodes.{nodeAt}
 use Rattle.graph.specs.Checks.{runnableCheck}
 use Rattle.graph.specs.declared.Header.{Header}
 use Rattle.file.specs.Reading.{readAnswer}
+use Rattle.file.specs.Writing.{fileOf, writeAnswer}
+use Rattle.file.proofs.Writer.{written-room}
 use Rattle.file.proofs.Words.{read-words}
 use Rattle.harden.specs.Hardened.{hardenAnswer}
 use Rattle.harden.proofs.Words.{harden-words}
@@ -36,6 +38,7 @@ use Rattle.text.proofs.Writing.{wrote-fits}
 use Rattle.desk.specs.declared.Choice.{Choice}
 use Rattle.desk.specs.declared.Choice.the-variants.{Chosen, Other}
 use Rattle.desk.specs.declared.Printed.{Printed}
+use Rattle.desk.specs.declared.FileMode.{FileMode}
 use Rattle.desk.specs.declared.Settings.{Settings}
 use Rattle.desk.specs.declared.Settings.the-variants.{Ready, Wrong}
 use Rattle.desk.specs.declared.Wanted.{Wanted}
@@ -43,10 +46,10 @@ use Rattle.desk.specs.declared.Words.{Words}
 use Rattle.desk.specs.declared.Words.the-variants.{All, Bad}
 use Rattle.desk.specs.declared.Mode.{Mode}
 use Rattle.desk.specs.declared.Mode.the-variants.{Plain, Hardened, Unknown}
-use Rattle.desk.specs.Arguments.{argument, modeOf, mostRoom, numbersOf, settingsBy, settingsOf, RoomIn, faultOf, wordOf, wordsOf, wordsIn}
+use Rattle.desk.specs.Arguments.{argument, modeOf, mostRoom, numbersOf, settingsBy, settingsOf, RoomIn, faultOf, fileModeOf, wordOf, wordsOf, wordsIn}
 use Rattle.desk.specs.Lines.{refusalLine, outcomeText, countsText, runText, scoreLine, complaintLine}
 use Rattle.desk.specs.Listing.{rowLine, rowLines, listing}
-use Rattle.desk.specs.Programs.{tableWords, Graph, readGraph, hardenGraph, graphIn, textOf, listText, runOn, progressText, runPrint, scoreOn, scorePrint, Print, output, complaint, withWords, withFault, runWith, runProgram, scoreWith, scoreProgram, textBytes, printOf, Shown, printed, complained}
+use Rattle.desk.specs.Programs.{tableWords, Graph, readGraph, hardenGraph, graphIn, textOf, listText, runOn, progressText, runPrint, scoreOn, scorePrint, Print, output, complaint, withWords, withFault, runWith, runProgram, scoreWith, scoreProgram, fileIn, filePrint, fileWith, fileProgram, textBytes, printOf, Shown, printed, complained}
 use Rattle.desk.proofs.Answers.{harden-room}
 
 -- ---- lines
@@ -72,6 +75,8 @@ complaint-fits Wanted.Room = simp length-append (omega (arith, spaced-length (3 
 complaint-fits Wanted.Fault = simp length-append (omega (arith, spaced-length (4 ∷ [])))
 complaint-fits (Wanted.Word i) = simp length-append (omega (arith, spaced-length (i ∷ [])))
 complaint-fits (Wanted.End i) = simp length-append (omega (arith, spaced-length (i ∷ [])))
+complaint-fits Wanted.Plain = simp length-append (omega (arith, spaced-length (1 ∷ [])))
+complaint-fits Wanted.One = simp length-append (omega (arith, spaced-length (2 ∷ [])))
 
 outcome-length : (outcome : Outcome) → length (outcomeText outcome) ≤ 29
 outcome-length (Returned value) = omega (arith, spaced-length (value ∷ []))
@@ -121,10 +126,10 @@ listing-fits h table room all =
 -- ---- graphs
 
 -- no matter how it is refused
-abbrev Any : ℕ → ℕ → Type 0
+abbrev pub Any : ℕ → ℕ → Type 0
 Any number place = Unit {0}
 
-answered : {A : Type 0} (a : Answer A) → Of (λ (x : A). Unit {0}) Any a
+pub answered : {A : Type 0} (a : Answer A) → Of (λ (x : A). Unit {0}) Any a
 answered (given a) = of-given tt
 answered (refused number place) = of-refused tt
 
@@ -133,7 +138,7 @@ text-fits : {A : Type 0} {P : A → Type 0} (text : A → List ℕ) {a : Answer 
 text-fits text fits (of-given {a = x} h) = fits x h
 text-fits text fits (of-refused {number = number} {place = place} h) = refusal-fits number place
 
-abbrev Worded : Graph → Type 0
+abbrev pub Worded : Graph → Type 0
 Worded g = AllWords (g .table)
 
 -- a graph whose rows lie in its table
@@ -161,7 +166,7 @@ hardened-listed : (bytes : List ℕ) → Of Listed Any (graphIn true bytes)
 unfolding graphIn
 hardened-listed bytes = of-then hardenGraph (read-worded bytes) λ g e words. harden-listed g words
 
-graph-worded : (hardened : Bool) (bytes : List ℕ) → Of Worded Any (graphIn hardened bytes)
+pub graph-worded : (hardened : Bool) (bytes : List ℕ) → Of Worded Any (graphIn hardened bytes)
 unfolding graphIn
 graph-worded true bytes = of-map (λ g listed. listed .0) (λ number place _. tt) (hardened-listed bytes)
 graph-worded false bytes = read-worded bytes
@@ -264,6 +269,19 @@ words-fit : (cells : List ℕ) (from : ℕ) (words : Words) (text : List ℕ →
 words-fit cells from (All count) text fits = fits (wordsOf cells from count) (arguments-words cells from count)
 words-fit cells from (Bad wanted) text fits = complaint-fits wanted
 
+-- a file that was written lies in the text
+file-print-fits : (a : Answer Graph) → PrintFits (filePrint (andThen a (fileIn textBytes)))
+unfolding fileIn
+file-print-fits (given g) =
+    let h = g .header in
+    by (fileOf (h .registers) (h .nodes) (h .entry) (g .table)) (writeAnswer (h .registers) (h .nodes) (h .entry) (g .table) textBytes)
+    (written-room (h .registers) (h .nodes) (h .entry) (g .table) textBytes)
+  where
+    by : (file : List ℕ) (a : Answer ℕ) → ((size : ℕ) → a ≡ given size → Fit file) → PrintFits (filePrint (andThen a λ _. given file))
+    by file (given size) fits = fits size refl
+    by file (refused number place) fits = refusal-fits number place
+file-print-fits (refused number place) = refusal-fits number place
+
 module _ (cells bytes : List ℕ) where
   room-known : RoomIn (settingsOf cells)
   unfolding settingsOf
@@ -295,6 +313,15 @@ module _ (cells bytes : List ℕ) where
           (λ inputs _. score-print-fits hardened budget room inputs bytes)
       by (Wrong wanted) = complaint-fits wanted
 
+  -- `hfile`
+  pub file-program-fits : PrintFits (fileProgram textBytes cells bytes)
+  unfolding fileProgram
+  file-program-fits = by (fileModeOf cells)
+    where
+      by : (mode : FileMode) → PrintFits (fileWith textBytes mode bytes)
+      by (FileMode.Ready hardened) = file-print-fits (graphIn hardened bytes)
+      by (FileMode.Wrong wanted) = complaint-fits wanted
+
 -- ---- nothing is cut
 
 -- a text that fits is printed whole
@@ -317,3 +344,10 @@ run-whole cells bytes before after answer lent w = shown-whole lent (run-program
 pub score-whole : (cells bytes before after : List ℕ) (answer : Printed) → textBytes ≤ length before → Shown before (scoreProgram cells bytes) after answer
     → printOf answer after ≡ scoreProgram cells bytes
 score-whole cells bytes before after answer lent w = shown-whole lent (score-program-fits cells bytes) w
+
+-- And with `hfile`, whose text has this length.
+pub file-whole : (cells bytes before after : List ℕ) (answer : Printed) → length before ≡ textBytes →
+    Shown before (fileProgram (length before) cells bytes) after answer → printOf answer after ≡ fileProgram textBytes cells bytes
+file-whole cells bytes before after answer lent w =
+    let enough : textBytes ≤ length before = omega arith in
+    shown-whole enough (file-program-fits cells bytes) (rw lent at w)

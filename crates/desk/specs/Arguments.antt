@@ -11,6 +11,7 @@ use Rattle.bench.specs.declared.Fault.{Fault}
 use Rattle.bench.specs.declared.Fault.the-variants.{Undisturbed, Inverted}
 use Rattle.desk.specs.declared.Choice.{Choice}
 use Rattle.desk.specs.declared.Choice.the-variants.{Chosen, Other}
+use Rattle.desk.specs.declared.FileMode.{FileMode}
 use Rattle.desk.specs.declared.Settings.{Settings}
 use Rattle.desk.specs.declared.Settings.the-variants.{Ready, Wrong}
 use Rattle.desk.specs.declared.Wanted.{Wanted}
@@ -88,6 +89,13 @@ faultOf text = cond (sameText text noneWord) (Chosen Undisturbed) (placeOf (valu
 -- how many arguments the cells hold
 abbrev pub argumentCount : List ℕ → ℕ
 argumentCount cells = length cells / 16
+
+-- `hfile`'s argument: none, which hardens, or `plain`
+unfoldable pub fileModeOf : List ℕ → FileMode
+fileModeOf cells =
+    let count = argumentCount cells in
+    let plain = cond (leb count 1) (FileMode.Ready false) (FileMode.Wrong Wanted.One) in
+    cond (eqb count 0) (FileMode.Ready true) (cond (sameText (argument cells 0) plainWord) plain (FileMode.Wrong Wanted.Plain))
 
 -- the word that an argument stands for, 0 where it is no number
 abbrev pub wordOf : Option ℕ → ℕ

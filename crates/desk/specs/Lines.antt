@@ -77,6 +77,14 @@ wantedWord = 58 ∷ 32 ∷ 101 ∷ 120 ∷ 112 ∷ 101 ∷ 99 ∷ 116 ∷ 101 �
 abbrev pub wantedEnd : List ℕ
 wantedEnd = 58 ∷ 32 ∷ 101 ∷ 120 ∷ 112 ∷ 101 ∷ 99 ∷ 116 ∷ 101 ∷ 100 ∷ 32 ∷ 110 ∷ 111 ∷ 32 ∷ 109 ∷ 111 ∷ 114 ∷ 101 ∷ 32 ∷ 116 ∷ 104 ∷ 97 ∷ 110 ∷ 32 ∷ 52 ∷ 48 ∷ 57 ∷ 54 ∷ 32 ∷ 119 ∷ 111 ∷ 114 ∷ 100 ∷ 115 ∷ []
 
+-- expected plain, or no argument
+abbrev pub wantedPlain : List ℕ
+wantedPlain = 58 ∷ 32 ∷ 101 ∷ 120 ∷ 112 ∷ 101 ∷ 99 ∷ 116 ∷ 101 ∷ 100 ∷ 32 ∷ 112 ∷ 108 ∷ 97 ∷ 105 ∷ 110 ∷ 44 ∷ 32 ∷ 111 ∷ 114 ∷ 32 ∷ 110 ∷ 111 ∷ 32 ∷ 97 ∷ 114 ∷ 103 ∷ 117 ∷ 109 ∷ 101 ∷ 110 ∷ 116 ∷ []
+
+-- expected no more than one argument
+abbrev pub wantedOne : List ℕ
+wantedOne = 58 ∷ 32 ∷ 101 ∷ 120 ∷ 112 ∷ 101 ∷ 99 ∷ 116 ∷ 101 ∷ 100 ∷ 32 ∷ 110 ∷ 111 ∷ 32 ∷ 109 ∷ 111 ∷ 114 ∷ 101 ∷ 32 ∷ 116 ∷ 104 ∷ 97 ∷ 110 ∷ 32 ∷ 111 ∷ 110 ∷ 101 ∷ 32 ∷ 97 ∷ 114 ∷ 103 ∷ 117 ∷ 109 ∷ 101 ∷ 110 ∷ 116 ∷ []
+
 -- which argument, and what was expected
 abbrev pub complaintOf : ℕ → List ℕ → List ℕ
 complaintOf i expected = line (argumentWord ++ spaced (i ∷ []) ++ expected)
@@ -89,3 +97,5 @@ complaintLine Wanted.Room = complaintOf 3 wantedRoom
 complaintLine Wanted.Fault = complaintOf 4 wantedFault
 complaintLine (Wanted.Word i) = complaintOf i wantedWord
 complaintLine (Wanted.End i) = complaintOf i wantedEnd
+complaintLine Wanted.Plain = complaintOf 1 wantedPlain
+complaintLine Wanted.One = complaintOf 2 wantedOne

@@ -7,6 +7,7 @@ use lib.ListN.{take, replicate}
 use Rattle.words.specs.Answer.{Answer, given, refused, andThen}
 use Rattle.graph.specs.declared.Header.{Header}
 use Rattle.file.specs.Reading.{readAnswer, readTable}
+use Rattle.file.specs.Writing.{fileOf, writeAnswer}
 use Rattle.harden.specs.Hardened.{hardenAnswer, hardenOutput}
 use Rattle.bench.specs.declared.Fault.{Fault}
 use Rattle.bench.specs.declared.Score.{Score}
@@ -17,6 +18,7 @@ use Rattle.text.specs.Places.{Wrote}
 use Rattle.desk.specs.declared.loading.Loaded.{Loaded}
 use Rattle.desk.specs.declared.Choice.{Choice}
 use Rattle.desk.specs.declared.Choice.the-variants.{Chosen, Other}
+use Rattle.desk.specs.declared.FileMode.{FileMode}
 use Rattle.desk.specs.declared.Printed.{Printed}
 use Rattle.desk.specs.declared.Printed.the-variants.{Output, Complaint}
 use Rattle.desk.specs.declared.Settings.{Settings}
@@ -24,7 +26,7 @@ use Rattle.desk.specs.declared.Settings.the-variants.{Ready, Wrong}
 use Rattle.desk.specs.declared.Wanted.{Wanted}
 use Rattle.desk.specs.declared.Words.{Words}
 use Rattle.desk.specs.declared.Words.the-variants.{All, Bad}
-use Rattle.desk.specs.Arguments.{argument, settingsOf, faultOf, wordsIn, wordsOf}
+use Rattle.desk.specs.Arguments.{argument, settingsOf, faultOf, fileModeOf, wordsIn, wordsOf}
 use Rattle.desk.specs.Lines.{refusalLine, runText, scoreLine, complaintLine}
 use Rattle.desk.specs.Listing.{listing}
 
@@ -120,6 +122,26 @@ scoreWith cells (Wrong wanted) bytes = complaint (complaintLine wanted)
 
 unfoldable pub scoreProgram : List ℕ → List ℕ → Print
 scoreProgram cells bytes = scoreWith cells (settingsOf cells) bytes
+
+-- a graph's file, for a text of this length
+unfoldable pub fileIn : ℕ → Graph → Answer (List ℕ)
+fileIn room g =
+    let h = g .header in
+    andThen (writeAnswer (h .registers) (h .nodes) (h .entry) (g .table) room) λ _.
+    given (fileOf (h .registers) (h .nodes) (h .entry) (g .table))
+
+-- a file goes to standard output, a refusal's line to standard error
+abbrev pub filePrint : Answer (List ℕ) → Print
+filePrint (given file) = output file
+filePrint (refused number place) = complaint (refusalLine number place)
+
+-- `hfile [plain]`, with a text of this length for the file
+abbrev pub fileWith : ℕ → FileMode → List ℕ → Print
+fileWith room (FileMode.Ready hardened) bytes = filePrint (andThen (graphIn hardened bytes) (fileIn room))
+fileWith room (FileMode.Wrong wanted) bytes = complaint (complaintLine wanted)
+
+unfoldable pub fileProgram : ℕ → List ℕ → List ℕ → Print
+fileProgram room cells bytes = fileWith room (fileModeOf cells) bytes
 
 -- the bytes of text that a program lends
 abbrev pub textBytes : ℕ

@@ -2,11 +2,12 @@
 ghost use Prim.Native.Nat.{_+_, _-_, _*_, _≤_};
 ghost use mathlib.Core.Path.{_≡_};
 ghost use lib.ListN.{length};
-ghost use Rattle.desk.specs.Arguments.{sameText, modeOf, faultOf, settingsOf, numbersOf, RoomIn, wordsIn, WordsFew, wordOf, wordsOf, isNumber, otherFrom};
+ghost use Rattle.desk.specs.Arguments.{sameText, modeOf, faultOf, settingsOf, numbersOf, RoomIn, wordsIn, WordsFew, wordOf, wordsOf, isNumber, otherFrom, fileModeOf};
 ghost use Rattle.text.specs.Decimals.{valueOf};
 ghost use Rattle.words.specs.Buffer.{put};
 ghost use Rattle.desk.specs.Arguments.{argument as argumentText};
 use crate::Choice;
+use crate::FileMode;
 use crate::Mode;
 use crate::Settings;
 use crate::Wanted;
@@ -162,6 +163,23 @@ fn numbers(cells: &[u8], hardened: bool) -> Settings
     let most = budget as usize;
     let size = room as usize;
     Settings::Ready(hardened, most, size)
+}
+
+// The argument of `hfile`: none, which hardens, or `plain`.
+pub fn file_mode(cells: &[u8]) -> FileMode
+    ensures { λ r. ⌜ r ≡ fileModeOf (now (cells .entry)) ⌝ }
+{
+    let count = cells.len() / 16;
+    if count == 0 {
+        return FileMode::Ready(true);
+    }
+    if !same(argument(cells, 0), b"plain") {
+        return FileMode::Wrong(Wanted::Plain);
+    }
+    if 1 < count {
+        return FileMode::Wrong(Wanted::One);
+    }
+    FileMode::Ready(false)
 }
 
 // How many words the arguments from `from` on are.

@@ -1,5 +1,6 @@
 // What the programs do between their arguments and standard input and what they print.
 mod arguments;
+mod files;
 mod graphs;
 mod lines;
 mod listing;
@@ -7,7 +8,8 @@ mod loading;
 mod programs;
 
 ghost use Rattle.text.specs.Places.{Wrote};
-ghost use Rattle.desk.specs.Programs.{listText, runProgram, scoreProgram, Shown};
+ghost use lib.ListN.{length};
+ghost use Rattle.desk.specs.Programs.{listText, runProgram, scoreProgram, fileProgram, Shown};
 use bench::Fault;
 use loading::Loaded;
 
@@ -18,7 +20,7 @@ pub enum Mode {
     Unknown,
 }
 
-// What was wanted in the place of an argument; the last two hold the argument's number, from 1.
+// What was wanted in the place of an argument; two hold the argument's number, from 1.
 pub enum Wanted {
     Mode,
     Budget,
@@ -26,11 +28,19 @@ pub enum Wanted {
     Fault,
     Word(usize),
     End(usize),
+    Plain,
+    One,
 }
 
 // The first three arguments: whether to harden, the budget, the event room.
 pub enum Settings {
     Ready(bool, usize, usize),
+    Wrong(Wanted),
+}
+
+// The argument of `hfile`: whether to harden.
+pub enum FileMode {
+    Ready(bool),
     Wrong(Wanted),
 }
 
@@ -85,5 +95,15 @@ pub fn score(cells: &[u8], bytes: &[u8], text: &mut [u8]) -> Printed
             programs::score_words(cells, bytes, hardened, budget, room, text)
         }
         Settings::Wrong(wanted) => Printed::Complaint(lines::complaint(text, wanted)),
+    }
+}
+
+// What `hfile` prints for its arguments, in cells, and the bytes of a graph file: the graph's file, or one line.
+pub fn file(cells: &[u8], bytes: &[u8], text: &mut [u8]) -> Printed
+    ensures { λ r. ⌜ Shown (now (text .entry)) (fileProgram (length (now (text .entry))) (now (cells .entry)) (now (bytes .entry))) (now (text .exit)) r ⌝ }
+{
+    match arguments::file_mode(cells) {
+        FileMode::Ready(hardened) => files::file_graph(bytes, hardened, text),
+        FileMode::Wrong(wanted) => Printed::Complaint(lines::complaint(text, wanted)),
     }
 }

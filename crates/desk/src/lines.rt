@@ -124,5 +124,7 @@ pub fn complaint(out: &mut [u8], wanted: Wanted) -> usize
         ),
         Wanted::Word(i) => expected(out, i, b": expected WORD, a number up to 4294967295"),
         Wanted::End(i) => expected(out, i, b": expected no more than 4096 words"),
+        Wanted::Plain => expected(out, 1, b": expected plain, or no argument"),
+        Wanted::One => expected(out, 2, b": expected no more than one argument"),
     }
 }

@@ -7,7 +7,7 @@ use native.Mathlib.Omega.{arith}
 use lib.ListN.{length, take, drop}
 use lib.Seq.{length-take-le, take-append-seam}
 use lib.Dec.{leb}
-use borrow.Author.Tests.{le-leb}
+use borrow.Author.Tests.{le-leb, leb-true}
 use Rattle.words.specs.Answer.{Answer, given, refused, demand}
 use Rattle.words.specs.Buffer.{over}
 use Rattle.words.proofs.Answers.{when-given}
@@ -43,10 +43,21 @@ sizeIn : Answer ℕ → ℕ
 sizeIn (given size) = size
 sizeIn (refused number place) = place
 
+-- a file that was written had room
+pub written-room : (registers nodes entry : ℕ) (table : List ℕ) (room size : ℕ) → writeAnswer registers nodes entry table room ≡ given size →
+    length (fileOf registers nodes entry table) ≤ room
+unfolding writeAnswer
+written-room registers nodes entry table room size done =
+    let file : List ℕ = fileOf registers nodes entry table in
+    let parts = and-given (runnableCheck registers nodes entry table) _ done in
+    leb-true (length file) room (demand-given (leb (length file) room) 15 (length file) _ (parts .2) .0)
+
 -- what stands in a buffer after a write: a runnable graph's file, whole
 pub record Stands (registers nodes entry size : ℕ) (table out : List ℕ) : Type 0 where
   pub graph : runnableCheck registers nodes entry table ≡ given tt
   pub size-is : size ≡ length (fileOf registers nodes entry table)
+  pub room : size ≤ length out
+  pub output : writeOutput registers nodes entry table out ≡ over (fileOf registers nodes entry table) out
   pub file : take size (writeOutput registers nodes entry table out) ≡ fileOf registers nodes entry table
 
 module _ (registers nodes entry size : ℕ) (table out : List ℕ) (done : writeAnswer registers nodes entry table (length out) ≡ given size) where
@@ -57,7 +68,13 @@ module _ (registers nodes entry size : ℕ) (table out : List ℕ) (done : write
       let parts = and-given (runnableCheck registers nodes entry table) _ done in
       let room = demand-given (leb (length file) (length out)) 15 (length file) _ (parts .2) in
       let s : size ≡ length file = sym (ap sizeIn (room .1)) in
-      record { graph = parts .1; size-is = s; file = rw (parts .1, room .0, s) (take-append-seam file (drop (length file) out)) }
+      record {
+        graph = parts .1;
+        size-is = s;
+        room = omega (arith, s, leb-true (length file) (length out) (room .0));
+        output = rw (parts .1, room .0);
+        file = rw (parts .1, room .0, s) (take-append-seam file (drop (length file) out));
+      }
 
   -- Reading what was written, into any table with room, gives the same R, N and entry and the same words, whatever stands behind them.
   pub read-written : AllWords table → (into : List ℕ) → 6 * nodes ≤ length into →

@@ -6,17 +6,20 @@ use native.Mathlib.Omega.{arith}
 use mathlib.Core.Path.{_≡_, refl, ap, _∙_}
 use mathlib.Core.Bool.{Bool, true, false}
 use mathlib.Core.List.{List, [], _∷_, _++_}
-use lib.ListN.{length, getD, length-append}
+use lib.ListN.{length, getD, drop, length-append}
+use lib.Dec.{leb}
 use borrow.Author.Tests.{lt-ltb}
-use Rattle.words.specs.Answer.{given}
+use Rattle.words.specs.Answer.{Answer, given, refused}
+use Rattle.words.specs.Buffer.{over}
+use Rattle.graph.specs.declared.Header.{Header}
 use Rattle.graph.specs.Limits.{runnable}
 use Rattle.graph.specs.Kinds.{layouts, roleAt, fault}
 use Rattle.graph.specs.Nodes.{Node, go, branch, ret, stop, Action, const, op, input, output, Operand, register, constant, wordsOf}
 use Rattle.graph.specs.Accepted.{ActionIn, OperandIn, NodeIn, SourceGraph}
 use Rattle.graph.specs.Checks.{faultAt, sourceCheck, runnableCheck}
-use Rattle.graph.proofs.Facts.{source-facts}
-use Rattle.graph.proofs.Passed.{table-given}
-use Rattle.harden.specs.Hardened.{Source, extra, prepare, update, check, groupOf, ownRow, sign, crossing, groupAt, sourceRows, groupRows, firstRow, hardenedRows, hardenedCount, tableOf, hardenedTable, sourceOf}
+use Rattle.graph.proofs.Facts.{and-given, source-facts}
+use Rattle.graph.proofs.Passed.{demand-given, table-given}
+use Rattle.harden.specs.Hardened.{Source, extra, prepare, update, check, groupOf, ownRow, sign, crossing, groupAt, sourceRows, groupRows, firstRow, hardenedRows, hardenedCount, tableOf, hardenedTable, sourceOf, hardenAnswer, hardenOutput}
 use Rattle.harden.proofs.Count.{count-bound, rows-length, hardened-length}
 use Rattle.harden.proofs.Rows.{own, group, word-at, group-in, source-in}
 
@@ -172,9 +175,25 @@ module _ (s : Source) (ok : SourceGraph (s .registers) (s .nodes) (s .entry) (s 
         in-order = λ i h. table-order (R + 2) H (hardenedRows s) rest rows-in i (rw rows-length h);
       })
 
+headerIn : Header → Answer Header → Header
+headerIn k (given h) = h
+headerIn k (refused number place) = k
+
 -- the same of a table that `check_source` accepts
 pub accepted-runnable : (registers nodes entry : ℕ) (table rest : List ℕ) → sourceCheck registers nodes entry table ≡ given tt
     → runnableCheck (registers + 2) (hardenedCount (sourceOf registers nodes entry table)) nodes (hardenedTable (sourceOf registers nodes entry table) ++ rest) ≡ given tt
 unfolding sourceOf
 accepted-runnable registers nodes entry table rest accepted =
     hardened-runnable (sourceOf registers nodes entry table) (source-facts registers nodes entry table accepted) rest
+
+-- and of what `harden` answers and leaves in the output
+pub output-runnable : (registers nodes entry : ℕ) (table out : List ℕ) (k : Header) → hardenAnswer registers nodes entry table (length out) ≡ given k
+    → runnableCheck (k .registers) (k .nodes) (k .entry) (hardenOutput registers nodes entry table out) ≡ given tt
+unfolding hardenAnswer hardenOutput over headerIn
+output-runnable registers nodes entry table out k e =
+    let h : ℕ = hardenedCount (sourceOf registers nodes entry table) in
+    let words : List ℕ = hardenedTable (sourceOf registers nodes entry table) in
+    let parts = and-given (sourceCheck registers nodes entry table) _ e in
+    let room = demand-given {A = Header} (leb (6 * h) (length out)) 11 (6 * h) _ (parts .2) in
+    let same : record { registers = registers + 2; nodes = h; entry = nodes } ≡ k = ap (headerIn k) (room .1) in
+    rw (← same, parts .1, room .0) (accepted-runnable registers nodes entry table (drop (length words) out) (parts .1))
