@@ -20,10 +20,10 @@ fn file(cells: &[u8], bytes: &[u8], text: &mut [u8]) -> Printed
 fn main() {
     let mut cells = console::cell_space();
     let used = console::arguments(&mut cells);
-    let mut file_bytes = console::file_space();
-    let size = io::read_full(STDIN_FILENO, &mut file_bytes);
+    let mut input = console::file_space();
+    let size = io::read_full(STDIN_FILENO, &mut input);
     let mut text = console::text_space();
-    let answer = file(&cells[..used], &file_bytes[..size], &mut text);
+    let answer = file(&cells[..used], &input[..size], &mut text);
     match answer {
         Printed::Output(end) => {
             io::write_all(STDOUT_FILENO, &text[..end]);

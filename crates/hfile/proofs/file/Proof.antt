@@ -1,21 +1,16 @@
+-- `hfile::file` meets its contract: a text of this size holds every answer. Assumes nothing.
+use mathlib.Core.Path.{refl}
+use Rattle.desk.proofs.Printing.{shown-inside}
+use Rattle.desk.proofs.Fits.{file-whole}
 use borrow.Author.Needs.{needs}
 use Rattle.hfile.proofs.file.Statement.{statement}
 use Rattle.hfile.proofs.file.Tie as tie
-use Rattle.hfile.proofs.file.Reads as reads
-use Rattle.hfile.proofs.file.Lts as lts
-use Rattle.desk.proofs.file.Reads as file-reads
 
--- src/main.rt:17:5
-file-requires : tie.Need-file-requires
-file-requires c κs = search needs
-
--- src/main.rt:13:1
-same-length : tie.Need-same-length
-same-length c = search needs
-
--- src/main.rt:13:1
 returns : tie.Need-returns
-returns c = ?
+returns c = (
+  shown-inside (c .before .before .file .ensures) refl,
+  file-whole _ _ _ _ _ (c .before .before .before .before .before .before .before .pre) (c .before .before .file .ensures),
+)
 
 pub file-spec : {M : Type 1} → statement M
-file-spec = tie.close (tie.spec file-requires same-length returns)
+file-spec = tie.close (tie.spec (λ c κs. search needs) (λ c. search needs) returns)
