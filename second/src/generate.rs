@@ -160,7 +160,7 @@ impl Writer<'_> {
             lines.extend(self.run_at_each_place());
         }
         lines.extend(self.special_run());
-        if self.index % 3 == 0 {
+        if self.oddly(0) {
             let line = self.run();
             lines.push(self.odd(line, 4));
         }
@@ -179,7 +179,7 @@ impl Writer<'_> {
         };
         let mut lines: Vec<Line> = (0..count).map(|_| self.score()).collect();
         lines.extend(self.special_score());
-        if self.index % 3 == 1 {
+        if self.oddly(1) {
             let line = self.score();
             lines.push(self.odd(line, 3));
         }
@@ -351,6 +351,11 @@ impl Writer<'_> {
         line.extend(fault);
         line.extend(self.input.iter().map(u32::to_string));
         line
+    }
+
+    /// Whether it is a program's turn to get an odd command line.
+    fn oddly(&self, turn: u64) -> bool {
+        self.index % 3 == turn
     }
 
     /// Writes one argument in a way of its own; place and way are in turn.

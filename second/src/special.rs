@@ -31,17 +31,17 @@ pub enum Purpose {
 /// What a case is for, and how many cases had the same purpose before it.
 pub fn purpose(index: u64) -> Option<(Purpose, u64)> {
     let turn = index / 40;
-    Some(match index % 40 {
-        0 => (Purpose::OneEvent, 2 * turn),
-        12 => (Purpose::OneEvent, 2 * turn + 1),
-        5 => (Purpose::LastRegister, turn),
-        15 => (Purpose::OutOfRange, turn),
-        20 => (Purpose::LongForm, turn),
-        25 => (Purpose::Registers, turn),
-        30 => (Purpose::Nodes, turn),
+    Some(match (index % 40, turn % 5) {
+        (0, _) => (Purpose::OneEvent, 2 * turn),
+        (12, _) => (Purpose::OneEvent, 2 * turn + 1),
+        (5, _) => (Purpose::LastRegister, turn),
+        (15, _) => (Purpose::OutOfRange, turn),
+        (20, _) => (Purpose::LongForm, turn),
+        (25, _) => (Purpose::Registers, turn),
+        (30, _) => (Purpose::Nodes, turn),
         // These take the longest to answer.
-        35 if turn % 5 == 0 => (Purpose::Many, turn / 5),
-        35 if turn % 5 == 2 => (Purpose::Long, turn / 5),
+        (35, 0) => (Purpose::Many, turn / 5),
+        (35, 2) => (Purpose::Long, turn / 5),
         _ => return None,
     })
 }
