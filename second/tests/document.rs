@@ -5,7 +5,7 @@ use second::campaign::{campaign, Score};
 use second::file;
 use second::graph::{Graph, Row, BRANCH_WORD, NODE_WORDS};
 use second::harden::harden;
-use second::programs::{hlist, hrun, hscore, read, read_hardened, TABLE_WORDS};
+use second::programs::{hfile, hlist, hrun, hscore, read, read_hardened, TABLE_WORDS};
 use second::refusal::Refusal;
 use second::run::{run, Answer, Outcome};
 use second::table::{check_runnable, check_source};
@@ -84,6 +84,39 @@ fn graph(registers: u32, nodes: u32, entry: u32) -> Graph {
 #[test]
 fn the_listing_byte_for_byte() {
     assert_eq!(hlist(GRAPH_A), LISTING);
+}
+
+/// The numbers of the listing without node numbers and spare words, none of
+/// which needs a second byte.
+#[test]
+fn the_hardened_file_is_the_listing_in_bytes() {
+    let file = [
+        4, 20, 5, 5, 0, 1, 4, 0, 0, 7, 7, 8, 6, 1, 0, 14, 1, 1, 9, 17, 7, 1, 1, 2, 1, 0, 8, 1, 3,
+        3, 9, 1, 3, 2, 9, 4, 0, 0, 7, 10, 12, 2, 4, 2, 2, 3, 11, 4, 1, 2, 2, 6, 2, 2, 4, 2, 2, 3,
+        13, 4, 1, 2, 3, 6, 3, 1, 3, 6, 15, 2, 4, 2, 2, 3, 16, 4, 1, 2, 4, 6, 4, 1, 3, 7, 18, 2, 4,
+        2, 2, 3, 19, 4, 1, 2, 4, 6, 4,
+    ];
+    assert_eq!(hfile(&[], GRAPH_A), Ok(file.to_vec()));
+    assert_eq!(hfile(&words("plain"), GRAPH_A), Ok(GRAPH_A.to_vec()));
+    let run = |line: &str, file: &[u8]| hrun(&words(line), file).unwrap();
+    assert_eq!(
+        run("plain 100 2 none 7", &file),
+        run("hardened 100 2 none 7", GRAPH_A)
+    );
+}
+
+#[test]
+fn no_file_for_a_refused_source() {
+    let plain = words("plain");
+    let line = |line: &str| Err(line.to_string());
+    assert_eq!(hfile(&[], &[]), line("refused 1 0"));
+    assert_eq!(hfile(&plain, &[0x80, 0]), line("refused 2 0"));
+    let catch = [1, 2, 0, 7, 0, 8];
+    assert_eq!(hfile(&[], &catch), line("refused 5 6"));
+    assert_eq!(hfile(&plain, &catch), Ok(catch.to_vec()));
+    let longer = [GRAPH_A, &[0; 40_000]].concat();
+    assert_eq!(hfile(&[], &longer), line("refused 10 22"));
+    assert_eq!(hfile(&plain, &longer), line("refused 10 22"));
 }
 
 #[test]
@@ -424,6 +457,20 @@ fn bad_arguments_are_named() {
     }
     let blank = ["plain", " 1", "1", "none"].map(String::from);
     assert_eq!(hrun(&blank, GRAPH_A), budget);
+}
+
+#[test]
+fn hfile_takes_one_word_or_none() {
+    let line = |what: &str| Err(format!("argument {what}"));
+    let first = line("1: expected plain, or no argument");
+    for bad in ["", "hardened", "Plain", "plainx", "plain ", "plai"] {
+        assert_eq!(hfile(&[bad.to_string()], GRAPH_A), first, "{bad:?}");
+        let followed = [bad, "plain"].map(String::from);
+        assert_eq!(hfile(&followed, &[]), first, "{bad:?}");
+    }
+    let second = line("2: expected no more than one argument");
+    assert_eq!(hfile(&words("plain plain"), GRAPH_A), second);
+    assert_eq!(hfile(&words("plain x y"), &[]), second);
 }
 
 #[test]
