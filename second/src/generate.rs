@@ -4,7 +4,6 @@
 use crate::arguments::{LAST_INPUT, LAST_ROOM};
 use crate::damage::damaged;
 use crate::dice::Dice;
-use crate::file;
 use crate::programs::{read, read_hardened, Held};
 use crate::run::{run, Outcome, LAST_BUDGET};
 use crate::shapes::any_shape;
@@ -19,6 +18,7 @@ pub struct Case {
     pub file: Vec<u8>,
     pub input: Vec<u32>,
     pub lists: Vec<Line>,
+    pub files: Vec<Line>,
     pub runs: Vec<Line>,
     pub scores: Vec<Line>,
 }
@@ -27,9 +27,10 @@ impl Case {
     /// Every command line with the program that it is for.
     pub fn lines(&self) -> impl Iterator<Item = (&'static str, &Line)> {
         let lists = self.lists.iter().map(|line| ("hlist", line));
+        let files = self.files.iter().map(|line| ("hfile", line));
         let runs = self.runs.iter().map(|line| ("hrun", line));
         let scores = self.scores.iter().map(|line| ("hscore", line));
-        lists.chain(runs).chain(scores)
+        lists.chain(files).chain(runs).chain(scores)
     }
 }
 
@@ -61,6 +62,7 @@ pub fn case(seed: u64, index: u64) -> Case {
         purpose: purpose.map(|(purpose, _)| purpose),
     };
     let lists = writer.lists();
+    let files = writer.files();
     let runs = writer.runs();
     let scores = writer.scores();
     Case {
@@ -69,6 +71,7 @@ pub fn case(seed: u64, index: u64) -> Case {
         file,
         input,
         lists,
+        files,
         runs,
         scores,
     }
@@ -81,7 +84,7 @@ fn graph_file(dice: &mut Dice) -> Vec<u8> {
     if dice.percent(share) {
         damaged(dice, &draft)
     } else {
-        file::write(&draft.graph(), &draft.rows.concat())
+        draft.file()
     }
 }
 
@@ -129,6 +132,29 @@ const BAD_NUMBERS: [&str; 10] = [
     "٣",
 ];
 
+/// Bad command lines of `hfile`: words that are nearly the one it takes, and
+/// more than one.
+const BAD_FILE_LINES: [&[&str]; 18] = [
+    &["hardened"],
+    &["plain", "plain"],
+    &[""],
+    &["Plain"],
+    &["plainn"],
+    &["plain", ""],
+    &["plai"],
+    &["plain "],
+    &["hardened", "plain"],
+    &["plain", "x", "y"],
+    &[" plain"],
+    &["plainplainplainplain"],
+    &["", "plain"],
+    &["plain\n"],
+    &["plainplainplain"],
+    &["plainplainplainp"],
+    &["none"],
+    &["--help"],
+];
+
 /// Chooses the command lines for a file from what its runs show.
 struct Writer<'a> {
     dice: &'a mut Dice,
@@ -152,6 +178,16 @@ impl Writer<'_> {
         lines
     }
 
+    /// `hfile` writes the graph hardened and as it is; in turn it is given a
+    /// bad command line.
+    fn files(&self) -> Vec<Line> {
+        let mut lines = vec![Vec::new(), vec!["plain".to_string()]];
+        if self.index % 7 == 3 {
+            lines.push(bad_file_line(self.index as usize / 7));
+        }
+        lines
+    }
+
     fn runs(&mut self) -> Vec<Line> {
         // A file that the reader refuses answers alike on every line.
         let count = if self.plain.is_some() { 4 } else { 1 };
@@ -160,7 +196,7 @@ impl Writer<'_> {
             lines.extend(self.run_at_each_place());
         }
         lines.extend(self.special_run());
-        if self.index % 3 == 0 {
+        if self.oddly(0) {
             let line = self.run();
             lines.push(self.odd(line, 4));
         }
@@ -179,7 +215,7 @@ impl Writer<'_> {
         };
         let mut lines: Vec<Line> = (0..count).map(|_| self.score()).collect();
         lines.extend(self.special_score());
-        if self.index % 3 == 1 {
+        if self.oddly(1) {
             let line = self.score();
             lines.push(self.odd(line, 3));
         }
@@ -353,6 +389,11 @@ impl Writer<'_> {
         line
     }
 
+    /// Whether it is a program's turn to get an odd command line.
+    fn oddly(&self, turn: u64) -> bool {
+        self.index % 3 == turn
+    }
+
     /// Writes one argument in a way of its own; place and way are in turn.
     fn odd(&mut self, mut line: Line, fixed: usize) -> Line {
         let turn = (self.index / 3) as usize;
@@ -420,11 +461,27 @@ impl Writer<'_> {
     }
 }
 
+fn bad_file_line(turn: usize) -> Line {
+    let turn = turn % (BAD_FILE_LINES.len() + 3);
+    if let Some(words) = BAD_FILE_LINES.get(turn) {
+        return words.iter().map(|word| word.to_string()).collect();
+    }
+    let plain = "plain".to_string();
+    // To a byte that counts them, these are five letters, no word and one.
+    match turn - BAD_FILE_LINES.len() {
+        0 => vec![plain + &"n".repeat(256)],
+        1 => vec![plain; 256],
+        _ => vec![plain; 257],
+    }
+}
+
 #[cfg(test)]
 mod tests {
     use super::*;
     use crate::campaign::campaign;
     use crate::fast::{campaign_forked, campaign_rerun, run_fast};
+    use crate::file;
+    use crate::programs::hfile;
     use crate::text::{assemble, show};
 
     const CASES: u64 = 400;
@@ -437,6 +494,16 @@ mod tests {
             assert!(one.lines().eq(other.lines()));
         }
         assert_ne!(case(7, 0).file, case(8, 0).file);
+    }
+
+    #[test]
+    fn every_bad_line_of_hfile_is_bad() {
+        for turn in 0..BAD_FILE_LINES.len() + 3 {
+            let line = bad_file_line(turn);
+            let place = if line[0] == "plain" { 2 } else { 1 };
+            let complaint = hfile(&line, &[]).unwrap_err();
+            assert!(complaint.starts_with(&format!("argument {place}:")));
+        }
     }
 
     #[test]
@@ -484,6 +551,22 @@ mod tests {
 
     fn held(file: &[u8]) -> Vec<Held> {
         read(file).into_iter().chain(read_hardened(file)).collect()
+    }
+
+    #[test]
+    fn what_is_read_is_written_alike_and_read_again() {
+        for index in 0..CASES {
+            let case = case(4, index);
+            let mut out = vec![0; file::LONGEST];
+            if let Ok((graph, table)) = read(&case.file) {
+                let length = file::write(&graph, &table, &mut out).unwrap();
+                assert_eq!(out[..length], case.file, "case {index}");
+            }
+            for (graph, table) in held(&case.file) {
+                let length = file::write(&graph, &table, &mut out).unwrap();
+                assert_eq!(read(&out[..length]), Ok((graph, table)), "case {index}");
+            }
+        }
     }
 
     #[test]

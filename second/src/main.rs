@@ -4,7 +4,7 @@
 use second::compare::{self, compare, show_case};
 use second::examples;
 use second::options::Options;
-use second::programs::{hlist, hrun, hscore, read, refused, FILE_BYTES};
+use second::programs::{hfile, hlist, hrun, hscore, read, refused, FILE_BYTES};
 use second::text::{assemble, show};
 use std::env;
 use std::io::{self, Read, Write};
@@ -13,12 +13,13 @@ use std::process::ExitCode;
 
 const USAGE: &str = "expected one of:
   hlist < FILE
+  hfile [plain] < FILE > FILE
   hrun MODE BUDGET ROOM FAULT [WORD ..] < FILE
   hscore MODE BUDGET ROOM [WORD ..] < FILE
   assemble < TEXT > FILE
   show < FILE
-  compare --hlist PATH --hrun PATH --hscore PATH --cases N --seed S [--seconds T] [--jobs J]
-  case --seed S --index I [--hlist PATH --hrun PATH --hscore PATH]
+  compare --hlist PATH --hfile PATH --hrun PATH --hscore PATH --cases N --seed S [--seconds T] [--jobs J]
+  case --seed S --index I [--hlist PATH --hfile PATH --hrun PATH --hscore PATH]
   examples [--hscore PATH] [--directory PATH]";
 
 fn main() -> ExitCode {
@@ -44,6 +45,7 @@ fn main() -> ExitCode {
 fn dispatch(command: &str, rest: &[String]) -> Result<bool, String> {
     match command {
         "hlist" => print(hlist(&graph_file()?).as_bytes()),
+        "hfile" => say(hfile(rest, &graph_file()?)),
         "hrun" => say(hrun(rest, &graph_file()?)),
         "hscore" => say(hscore(rest, &graph_file()?)),
         "assemble" => print(&assemble(&whole_text()?)?),
@@ -56,10 +58,10 @@ fn dispatch(command: &str, rest: &[String]) -> Result<bool, String> {
     }
 }
 
-/// An answer, or the line for a bad argument; the exit status is 0 in both cases.
-fn say(answer: Result<String, String>) -> Result<bool, String> {
+/// An answer, or a line on standard error; the exit status is 0 in both cases.
+fn say(answer: Result<impl AsRef<[u8]>, String>) -> Result<bool, String> {
     match answer {
-        Ok(text) => print(text.as_bytes()),
+        Ok(answer) => print(answer.as_ref()),
         Err(line) => {
             eprintln!("{line}");
             Ok(true)
@@ -76,7 +78,7 @@ fn show_file() -> Result<bool, String> {
 
 fn compare_programs(rest: &[String]) -> Result<bool, String> {
     let known = [
-        "hlist", "hrun", "hscore", "cases", "seed", "seconds", "jobs",
+        "hlist", "hfile", "hrun", "hscore", "cases", "seed", "seconds", "jobs",
     ];
     let options = Options::parse(rest, &known)?;
     let cases = options.required_number("cases")?;
@@ -93,12 +95,10 @@ fn compare_programs(rest: &[String]) -> Result<bool, String> {
 }
 
 fn one_case(rest: &[String]) -> Result<bool, String> {
-    let known = ["seed", "index", "hlist", "hrun", "hscore"];
-    let options = Options::parse(rest, &known)?;
-    let programs = match options.path("hlist") {
-        Some(_) => Some(options.programs()?),
-        None => None,
-    };
+    let paths = ["hlist", "hfile", "hrun", "hscore"];
+    let options = Options::parse(rest, &[&paths[..], &["seed", "index"]].concat())?;
+    let compared = paths.iter().any(|name| options.path(name).is_some());
+    let programs = compared.then(|| options.programs()).transpose()?;
     let seed = options.required_number("seed")?;
     let index = options.required_number("index")?;
     Ok(show_case(seed, index, programs.as_ref()))

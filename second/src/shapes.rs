@@ -2,6 +2,7 @@
 //! read and emit, tangles of random edges, and the edges of every limit.
 
 use crate::dice::{Dice, EDGES};
+use crate::file;
 use crate::graph::*;
 
 /// A graph in the making, of any size and not yet checked.
@@ -19,6 +20,15 @@ impl Draft {
             nodes: self.rows.len() as u32,
             entry: self.entry,
         }
+    }
+
+    pub fn numbers(&self) -> Vec<u32> {
+        file::numbers(&self.graph(), &self.rows.concat())
+    }
+
+    /// The file of the draft, which no reader need accept.
+    pub fn file(&self) -> Vec<u8> {
+        file::encode(&self.numbers())
     }
 
     /// Sends every edge and the entry through a renumbering.
@@ -461,6 +471,11 @@ pub fn sized_program(dice: &mut Dice, registers: u32, nodes: usize) -> Draft {
 /// Nothing but branches, up to the largest hardened graph there is.
 fn all_branches(dice: &mut Dice) -> Draft {
     let nodes = dice.pick(&[1, 2, 3, 16, 255, 256, 256, 257]);
+    branches(dice, nodes)
+}
+
+/// So many branches, the last at times a `ret`.
+pub fn branches(dice: &mut Dice, nodes: u32) -> Draft {
     let registers = dice.pick(&[1, 3, 62, 62]);
     let near = dice.percent(60);
     let mut rows: Vec<Row> = (0..nodes)
@@ -483,7 +498,7 @@ fn all_branches(dice: &mut Dice) -> Draft {
 
 /// The longest file there is: branches with words of five bytes and targets
 /// of two, as many as a runnable graph may have.
-fn longest(dice: &mut Dice) -> Draft {
+pub fn longest(dice: &mut Dice) -> Draft {
     let nodes = RUNNABLE.nodes;
     let row = |dice: &mut Dice| {
         let word = dice.between(1 << 28, u32::MAX - 1);

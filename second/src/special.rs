@@ -6,7 +6,7 @@ use crate::dice::Dice;
 use crate::file;
 use crate::graph::*;
 use crate::run::LAST_BUDGET;
-use crate::shapes::{sized_program, structured, Draft};
+use crate::shapes::{branches, longest, sized_program, structured, Draft};
 
 #[derive(Clone, Copy, Debug, PartialEq, Eq)]
 pub enum Purpose {
@@ -26,22 +26,28 @@ pub enum Purpose {
     Registers,
     /// N from 258 to 2,048.
     Nodes,
+    /// The longest file there is.
+    Longest,
+    /// A source whose hardened file is a long one.
+    Branches,
 }
 
 /// What a case is for, and how many cases had the same purpose before it.
 pub fn purpose(index: u64) -> Option<(Purpose, u64)> {
     let turn = index / 40;
-    Some(match index % 40 {
-        0 => (Purpose::OneEvent, 2 * turn),
-        12 => (Purpose::OneEvent, 2 * turn + 1),
-        5 => (Purpose::LastRegister, turn),
-        15 => (Purpose::OutOfRange, turn),
-        20 => (Purpose::LongForm, turn),
-        25 => (Purpose::Registers, turn),
-        30 => (Purpose::Nodes, turn),
+    Some(match (index % 40, turn % 5) {
+        (0, _) => (Purpose::OneEvent, 2 * turn),
+        (12, _) => (Purpose::OneEvent, 2 * turn + 1),
+        (5, _) => (Purpose::LastRegister, turn),
+        (15, _) => (Purpose::OutOfRange, turn),
+        (20, _) => (Purpose::LongForm, turn),
+        (25, _) => (Purpose::Registers, turn),
+        (30, _) => (Purpose::Nodes, turn),
         // These take the longest to answer.
-        35 if turn % 5 == 0 => (Purpose::Many, turn / 5),
-        35 if turn % 5 == 2 => (Purpose::Long, turn / 5),
+        (35, 0) => (Purpose::Many, turn / 5),
+        (35, 2) => (Purpose::Long, turn / 5),
+        (35, 1) => (Purpose::Longest, turn / 5),
+        (35, rest) => (Purpose::Branches, 2 * (turn / 5) + rest - 3),
         _ => return None,
     })
 }
@@ -70,15 +76,17 @@ pub fn special_file(dice: &mut Dice, (purpose, turn): (Purpose, u64)) -> Vec<u8>
             let (registers, nodes) = (dice.between(7, 64), dice.between(258, 2048));
             sized_program(dice, registers, nodes as usize)
         }
+        // Shuffled it would not be as long.
+        Purpose::Longest => return longest(dice).file(),
+        Purpose::Branches => {
+            let nodes = dice.between(200, 256);
+            branches(dice, nodes)
+        }
     };
     if dice.percent(50) {
         draft.shuffle(dice);
     }
-    bytes(&draft)
-}
-
-fn bytes(draft: &Draft) -> Vec<u8> {
-    file::write(&draft.graph(), &draft.rows.concat())
+    draft.file()
 }
 
 /// How a round goes wrong when its test is inverted.
@@ -262,7 +270,7 @@ fn last_register(dice: &mut Dice) -> Draft {
 fn out_of_range(dice: &mut Dice, turn: u64) -> Vec<u8> {
     let nodes = dice.between(6, 30) as usize;
     let draft = structured(dice, 12, nodes);
-    let mut numbers = file::numbers(&draft.graph(), &draft.rows.concat());
+    let mut numbers = draft.numbers();
     (numbers[0], numbers[1]) = match turn % 4 {
         0 => (0, numbers[1]),
         1 => (65, numbers[1]),
@@ -286,7 +294,7 @@ fn out_of_range(dice: &mut Dice, turn: u64) -> Vec<u8> {
 /// end: R, a port, or any.
 fn longer_number(dice: &mut Dice, turn: u64) -> Vec<u8> {
     let draft = guarded(dice, 3, Guard::in_turn(turn));
-    let numbers = file::numbers(&draft.graph(), &draft.rows.concat());
+    let numbers = draft.numbers();
     let place = match turn % 4 {
         0 => 0,
         1 | 2 => {
