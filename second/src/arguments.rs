@@ -1,10 +1,10 @@
-//! The command lines of `hrun` and `hscore`: what each argument may be, and
-//! the one line that says which was wrong, both as the guide has them.
+//! The command lines of `hfile`, `hrun` and `hscore`: what each argument may
+//! be, and the one line that says which was wrong, both as the guide has them.
 
 pub const LAST_ROOM: u32 = 16_384;
 pub const LAST_INPUT: usize = 4_096;
 
-/// Whether the graph runs as read or is hardened first.
+/// Whether the graph is taken as read or hardened first.
 #[derive(Clone, Copy, Debug, PartialEq, Eq)]
 pub enum Mode {
     Plain,
@@ -22,6 +22,16 @@ pub struct Arguments {
 }
 
 type Parsed<T> = Result<T, String>;
+
+/// [plain]
+pub fn file_arguments(words: &[String]) -> Parsed<Mode> {
+    match words {
+        [] => Ok(Mode::Hardened),
+        [word] if word == "plain" => Ok(Mode::Plain),
+        [word, ..] if word == "plain" => expected(2, "no more than one argument"),
+        _ => expected(1, "plain, or no argument"),
+    }
+}
 
 /// MODE BUDGET ROOM FAULT [WORD ..]
 pub fn run_arguments(words: &[String]) -> Parsed<Arguments> {

@@ -6,6 +6,7 @@ use crate::generate::{case, Case, Line};
 use crate::mix::{Marks, Mix};
 use crate::observe::{End, Programs, Said, Starter};
 use crate::programs::{hlist, hrun, hscore, hscore_watched};
+use crate::report::{difference, hex, spoken};
 use std::sync::atomic::{AtomicU64, Ordering};
 use std::sync::Mutex;
 use std::thread;
@@ -13,7 +14,6 @@ use std::time::{Duration, Instant};
 
 /// Reports beyond this many are counted and not printed.
 const REPORTS: u64 = 20;
-const REPORT_LINES: usize = 40;
 
 pub struct Options {
     pub programs: Programs,
@@ -161,7 +161,7 @@ impl<'a> Trial<'a> {
             self.fail(program, line, &difference(&said, &expected));
             return None;
         }
-        Some(said.output)
+        Some(String::from_utf8_lossy(&said.output).into_owned())
     }
 
     /// Starts a program; one that cannot be started fails the case, and
@@ -193,12 +193,7 @@ impl<'a> Trial<'a> {
     pub fn fail(&mut self, program: &str, line: &Line, message: &str) {
         self.tally.failed += 1;
         let (seed, index) = (self.case.seed, self.case.index);
-        let hex: String = self
-            .case
-            .file
-            .iter()
-            .map(|byte| format!("{byte:02x}"))
-            .collect();
+        let hex = hex(&self.case.file);
         let again = format!(
             "second case --seed {seed} --index {index} --hlist {} --hrun {} --hscore {}",
             self.programs.hlist.display(),
@@ -211,21 +206,6 @@ impl<'a> Trial<'a> {
             message.trim_end().replace('\n', "\n  ")
         ));
     }
-}
-
-/// A command line as it is typed; words that are not plain are quoted.
-pub fn spoken(line: &Line) -> String {
-    let words: Vec<String> = line
-        .iter()
-        .map(|word| match word {
-            _ if word.chars().any(char::is_control) => format!("$'{}'", word.escape_default()),
-            _ if word.is_empty() || word.bytes().any(|b| !b.is_ascii_alphanumeric()) => {
-                format!("'{word}'")
-            }
-            _ => word.clone(),
-        })
-        .collect();
-    words.join(" ")
 }
 
 /// What the second program says, taken up in the mix.
@@ -244,50 +224,13 @@ fn expected(case: &Case, program: &str, line: &Line, mix: &mut Mix) -> Said {
             if program == "hrun" {
                 mix.run(line, &case.file, &text);
             }
-            Said::answer(&text)
+            Said::answer(text.as_bytes())
         }
         Err(complaint) => {
             mix.add(&format!("{program}: bad arguments"));
             Said::complaint(&complaint)
         }
     }
-}
-
-/// In what a program differs from what it should have said.
-pub fn difference(said: &Said, expected: &Said) -> String {
-    let mut message = match said.end {
-        End::Status(0) => String::new(),
-        End::Status(status) => format!("ended with status {status}\n"),
-        End::Signal(signal) => format!("died of signal {signal}\n"),
-        End::Hung => "did not end by itself\n".to_string(),
-    };
-    for (name, said, expected) in [
-        ("output", &said.output, &expected.output),
-        ("standard error", &said.errors, &expected.errors),
-    ] {
-        if said != expected {
-            message += &format!(
-                "{name}: first difference in line {}\n{}{}",
-                first_difference(said, expected),
-                quoted("the given program", said),
-                quoted("the second program", expected)
-            );
-        }
-    }
-    message
-}
-
-fn first_difference(one: &str, other: &str) -> usize {
-    let same = one.lines().zip(other.lines()).take_while(|(a, b)| a == b);
-    same.count() + 1
-}
-
-fn quoted(name: &str, text: &str) -> String {
-    let mut shown = format!("{name} ({} lines):\n", text.lines().count());
-    for line in text.lines().take(REPORT_LINES) {
-        shown += &format!("  | {line}\n");
-    }
-    shown
 }
 
 /// Runs the whole comparison; true when nothing differed.
@@ -345,8 +288,7 @@ fn work(options: &Options, began: Instant, next: &AtomicU64, total: &Mutex<Tally
 /// Shows one case whole, and compares it when programs are given.
 pub fn show_case(seed: u64, index: u64, programs: Option<&Programs>) -> bool {
     let case = case(seed, index);
-    let hex: String = case.file.iter().map(|byte| format!("{byte:02x}")).collect();
-    println!("seed {seed} index {index}\nfile {hex}");
+    println!("seed {seed} index {index}\nfile {}", hex(&case.file));
     for (program, line) in case.lines() {
         let answer = match program {
             "hlist" => Ok(hlist(&case.file)),

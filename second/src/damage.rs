@@ -8,7 +8,7 @@ use crate::shapes::Draft;
 
 /// The bytes of a graph's file with one kind of damage done.
 pub fn damaged(dice: &mut Dice, draft: &Draft) -> Vec<u8> {
-    let numbers = file::numbers(&draft.graph(), &draft.rows.concat());
+    let numbers = draft.numbers();
     let mut bytes = file::encode(&numbers);
     match dice.below(12) {
         0 => file::encode(&other_number(dice, &numbers)),
@@ -80,7 +80,7 @@ fn at_a_limit(dice: &mut Dice, draft: &Draft) -> Vec<u8> {
             Target => draft.rows.len() as u32 - 1 + beyond,
         };
     }
-    file::write(&draft.graph(), &draft.rows.concat())
+    draft.file()
 }
 
 /// Puts a number at some limit, or one off it, in place of another.

@@ -1,9 +1,9 @@
 //! The examples held against their table of scores, each through a given
 //! program and through the second one, and each file against its readable form.
 
-use crate::compare::difference;
 use crate::observe::{Said, Starter};
 use crate::programs::hscore;
+use crate::report::difference;
 use crate::text::assemble;
 use std::collections::BTreeSet;
 use std::fs;
@@ -44,7 +44,7 @@ pub fn check(directory: &Path, program: Option<&Path>) -> Result<bool, String> {
         if let Some(program) = program {
             let said = starter.start(program, &line, &file);
             let said = said.map_err(|error| format!("{}: {error}", program.display()))?;
-            let expected = Said::answer(&format!("{}\n", row.score));
+            let expected = Said::answer(format!("{}\n", row.score).as_bytes());
             checks.say(said == expected, &format!("hscore: {name}"));
             print!("{}", difference(&said, &expected));
         }

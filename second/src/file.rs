@@ -1,8 +1,11 @@
-//! "The file": seven-bit groups, the reader of graph files, and the writer
-//! that the generator and the assembler need.
+//! "The file": seven-bit groups, the reader of graph files and their writer.
 
 use crate::graph::*;
 use crate::refusal::{refuse, Refusal};
+use crate::table::check_runnable;
+
+/// No accepted file has more bytes.
+pub const LONGEST: usize = 24_605;
 
 /// Reads a graph file into the first 6N words of a lent table. A refusal
 /// leaves the table as it stood, so the words are gathered before any is put.
@@ -155,8 +158,21 @@ pub fn number(bytes: &[u8], start: usize) -> Result<(u32, usize), Refusal> {
     unreachable!("a fifth byte of at most 15 ends the number")
 }
 
+/// Writes a runnable graph as its file over the first bytes of a lent buffer,
+/// and answers how many they are. A refusal leaves the buffer as it stood.
+pub fn write(graph: &Graph, table: &[u32], out: &mut [u8]) -> Result<usize, Refusal> {
+    check_runnable(graph, table)?;
+    let bytes = encode(&numbers(graph, table));
+    let needed = bytes.len();
+    if out.len() < needed {
+        return refuse(15, needed);
+    }
+    out[..needed].copy_from_slice(&bytes);
+    Ok(needed)
+}
+
 /// Appends a number in its shortest form.
-pub fn put_number(bytes: &mut Vec<u8>, mut value: u32) {
+fn put_number(bytes: &mut Vec<u8>, mut value: u32) {
     while value >= 0x80 {
         bytes.push(value as u8 | 0x80);
         value >>= 7;
@@ -164,7 +180,8 @@ pub fn put_number(bytes: &mut Vec<u8>, mut value: u32) {
     bytes.push(value as u8);
 }
 
-/// The numbers of a graph's file, in order and without spare words.
+/// The numbers of a graph's file, in order and without spare words; the rows
+/// need not be those of a runnable graph.
 pub fn numbers(graph: &Graph, table: &[u32]) -> Vec<u32> {
     let mut all = vec![graph.registers, graph.nodes, graph.entry];
     for node in 0..graph.nodes {
@@ -181,9 +198,4 @@ pub fn encode(numbers: &[u32]) -> Vec<u8> {
         put_number(&mut bytes, value);
     }
     bytes
-}
-
-/// The file of a graph.
-pub fn write(graph: &Graph, table: &[u32]) -> Vec<u8> {
-    encode(&numbers(graph, table))
 }

@@ -4,7 +4,6 @@
 use crate::arguments::{LAST_INPUT, LAST_ROOM};
 use crate::damage::damaged;
 use crate::dice::Dice;
-use crate::file;
 use crate::programs::{read, read_hardened, Held};
 use crate::run::{run, Outcome, LAST_BUDGET};
 use crate::shapes::any_shape;
@@ -81,7 +80,7 @@ fn graph_file(dice: &mut Dice) -> Vec<u8> {
     if dice.percent(share) {
         damaged(dice, &draft)
     } else {
-        file::write(&draft.graph(), &draft.rows.concat())
+        draft.file()
     }
 }
 
@@ -160,7 +159,7 @@ impl Writer<'_> {
             lines.extend(self.run_at_each_place());
         }
         lines.extend(self.special_run());
-        if self.index % 3 == 0 {
+        if self.oddly(0) {
             let line = self.run();
             lines.push(self.odd(line, 4));
         }
@@ -179,7 +178,7 @@ impl Writer<'_> {
         };
         let mut lines: Vec<Line> = (0..count).map(|_| self.score()).collect();
         lines.extend(self.special_score());
-        if self.index % 3 == 1 {
+        if self.oddly(1) {
             let line = self.score();
             lines.push(self.odd(line, 3));
         }
@@ -353,6 +352,11 @@ impl Writer<'_> {
         line
     }
 
+    /// Whether it is a program's turn to get an odd command line.
+    fn oddly(&self, turn: u64) -> bool {
+        self.index % 3 == turn
+    }
+
     /// Writes one argument in a way of its own; place and way are in turn.
     fn odd(&mut self, mut line: Line, fixed: usize) -> Line {
         let turn = (self.index / 3) as usize;
@@ -425,6 +429,7 @@ mod tests {
     use super::*;
     use crate::campaign::campaign;
     use crate::fast::{campaign_forked, campaign_rerun, run_fast};
+    use crate::file;
     use crate::text::{assemble, show};
 
     const CASES: u64 = 400;
@@ -484,6 +489,22 @@ mod tests {
 
     fn held(file: &[u8]) -> Vec<Held> {
         read(file).into_iter().chain(read_hardened(file)).collect()
+    }
+
+    #[test]
+    fn what_is_read_is_written_alike_and_read_again() {
+        for index in 0..CASES {
+            let case = case(4, index);
+            let mut out = vec![0; file::LONGEST];
+            if let Ok((graph, table)) = read(&case.file) {
+                let length = file::write(&graph, &table, &mut out).unwrap();
+                assert_eq!(out[..length], case.file, "case {index}");
+            }
+            for (graph, table) in held(&case.file) {
+                let length = file::write(&graph, &table, &mut out).unwrap();
+                assert_eq!(read(&out[..length]), Ok((graph, table)), "case {index}");
+            }
+        }
     }
 
     #[test]

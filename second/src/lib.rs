@@ -20,6 +20,7 @@ pub mod observe;
 pub mod options;
 pub mod programs;
 pub mod refusal;
+pub mod report;
 pub mod run;
 pub mod shapes;
 pub mod special;

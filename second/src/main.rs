@@ -4,7 +4,7 @@
 use second::compare::{self, compare, show_case};
 use second::examples;
 use second::options::Options;
-use second::programs::{hlist, hrun, hscore, read, refused, FILE_BYTES};
+use second::programs::{hfile, hlist, hrun, hscore, read, refused, FILE_BYTES};
 use second::text::{assemble, show};
 use std::env;
 use std::io::{self, Read, Write};
@@ -13,6 +13,7 @@ use std::process::ExitCode;
 
 const USAGE: &str = "expected one of:
   hlist < FILE
+  hfile [plain] < FILE > FILE
   hrun MODE BUDGET ROOM FAULT [WORD ..] < FILE
   hscore MODE BUDGET ROOM [WORD ..] < FILE
   assemble < TEXT > FILE
@@ -44,6 +45,7 @@ fn main() -> ExitCode {
 fn dispatch(command: &str, rest: &[String]) -> Result<bool, String> {
     match command {
         "hlist" => print(hlist(&graph_file()?).as_bytes()),
+        "hfile" => say(hfile(rest, &graph_file()?)),
         "hrun" => say(hrun(rest, &graph_file()?)),
         "hscore" => say(hscore(rest, &graph_file()?)),
         "assemble" => print(&assemble(&whole_text()?)?),
@@ -56,10 +58,10 @@ fn dispatch(command: &str, rest: &[String]) -> Result<bool, String> {
     }
 }
 
-/// An answer, or the line for a bad argument; the exit status is 0 in both cases.
-fn say(answer: Result<String, String>) -> Result<bool, String> {
+/// An answer, or a line on standard error; the exit status is 0 in both cases.
+fn say(answer: Result<impl AsRef<[u8]>, String>) -> Result<bool, String> {
     match answer {
-        Ok(text) => print(text.as_bytes()),
+        Ok(answer) => print(answer.as_ref()),
         Err(line) => {
             eprintln!("{line}");
             Ok(true)

@@ -323,11 +323,7 @@ impl Marks {
         }
         let prefix = run.expected.starts_with(run.events);
         match run.answer.outcome {
-            Outcome::Caught if prefix => {
-                if !run.events.is_empty() && run.events.len() < run.expected.len() {
-                    self.0.insert(CAUGHT_BEGUN);
-                }
-            }
+            Outcome::Caught if prefix => self.caught(run),
             Outcome::Caught => self.late(run),
             outcome @ Outcome::Returned(_) => {
                 if run.answer.steps > 50_000 {
@@ -338,6 +334,12 @@ impl Marks {
                 }
             }
             _ => (),
+        }
+    }
+
+    fn caught(&mut self, run: &Disturbed) {
+        if !run.events.is_empty() && run.events.len() < run.expected.len() {
+            self.0.insert(CAUGHT_BEGUN);
         }
     }
 

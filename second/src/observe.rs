@@ -29,20 +29,20 @@ pub enum End {
     Hung,
 }
 
-/// What a program wrote, and how it ended.
+/// What a program wrote, text or not, and how it ended.
 #[derive(Clone, Debug, PartialEq, Eq)]
 pub struct Said {
-    pub output: String,
-    pub errors: String,
+    pub output: Vec<u8>,
+    pub errors: Vec<u8>,
     pub end: End,
 }
 
 impl Said {
-    /// What an answer looks like: the text alone, nothing beside it.
-    pub fn answer(text: &str) -> Self {
+    /// What an answer looks like: the output alone, nothing beside it.
+    pub fn answer(output: &[u8]) -> Self {
         Said {
-            output: text.to_string(),
-            errors: String::new(),
+            output: output.to_vec(),
+            errors: Vec::new(),
             end: End::Status(0),
         }
     }
@@ -50,8 +50,8 @@ impl Said {
     /// What a bad argument looks like: its line on standard error, no output.
     pub fn complaint(line: &str) -> Self {
         Said {
-            output: String::new(),
-            errors: format!("{line}\n"),
+            output: Vec::new(),
+            errors: format!("{line}\n").into_bytes(),
             end: End::Status(0),
         }
     }
@@ -132,12 +132,12 @@ impl Default for Starter {
     }
 }
 
-fn heard(pipe: Option<impl Read>) -> io::Result<String> {
+fn heard(pipe: Option<impl Read>) -> io::Result<Vec<u8>> {
     let mut bytes = Vec::new();
     if let Some(mut pipe) = pipe {
         pipe.read_to_end(&mut bytes)?;
     }
-    Ok(String::from_utf8_lossy(&bytes).into_owned())
+    Ok(bytes)
 }
 
 /// Ends a program that has outlasted our patience, as long as its worker lives.

@@ -1,7 +1,7 @@
-//! "One listing, whole" and its two companions: what `hlist`, `hrun` and
+//! "One listing, whole" and its companions: what `hlist`, `hfile`, `hrun` and
 //! `hscore` print for a graph file.
 
-use crate::arguments::{run_arguments, score_arguments, Arguments, Mode};
+use crate::arguments::{file_arguments, run_arguments, score_arguments, Arguments, Mode};
 use crate::campaign::{watched_campaign, Disturbed, Score};
 use crate::file;
 use crate::graph::{row, Graph};
@@ -43,6 +43,13 @@ pub fn hlist(bytes: &[u8]) -> String {
     read_hardened(bytes).map_or_else(refused, |(graph, table)| listing(&graph, &table))
 }
 
+/// The file of the hardened graph, or of the graph as read. Its output is a
+/// file or nothing, so a refusal is told as a bad argument is.
+pub fn hfile(words: &[String], bytes: &[u8]) -> Result<Vec<u8>, String> {
+    let mode = file_arguments(words)?;
+    write_file(mode, bytes).map_err(|refusal| refused(refusal).trim_end().to_string())
+}
+
 /// The outer error is a bad argument; a refusal is an ordinary answer.
 pub fn hrun(words: &[String], bytes: &[u8]) -> Result<String, String> {
     let arguments = run_arguments(words)?;
@@ -61,6 +68,14 @@ pub fn hscore_watched(
 ) -> Result<String, String> {
     let arguments = score_arguments(words)?;
     Ok(score_file(&arguments, bytes, watch).unwrap_or_else(refused))
+}
+
+fn write_file(mode: Mode, bytes: &[u8]) -> Result<Vec<u8>, Refusal> {
+    let (graph, table) = load(mode, bytes)?;
+    let mut file = vec![0; file::LONGEST];
+    let length = file::write(&graph, &table, &mut file)?;
+    file.truncate(length);
+    Ok(file)
 }
 
 fn run_file(arguments: &Arguments, bytes: &[u8]) -> Result<String, Refusal> {

@@ -2,6 +2,7 @@
 //! read and emit, tangles of random edges, and the edges of every limit.
 
 use crate::dice::{Dice, EDGES};
+use crate::file;
 use crate::graph::*;
 
 /// A graph in the making, of any size and not yet checked.
@@ -19,6 +20,15 @@ impl Draft {
             nodes: self.rows.len() as u32,
             entry: self.entry,
         }
+    }
+
+    pub fn numbers(&self) -> Vec<u32> {
+        file::numbers(&self.graph(), &self.rows.concat())
+    }
+
+    /// The file of the draft, which no reader need accept.
+    pub fn file(&self) -> Vec<u8> {
+        file::encode(&self.numbers())
     }
 
     /// Sends every edge and the entry through a renumbering.

@@ -31,17 +31,17 @@ pub enum Purpose {
 /// What a case is for, and how many cases had the same purpose before it.
 pub fn purpose(index: u64) -> Option<(Purpose, u64)> {
     let turn = index / 40;
-    Some(match index % 40 {
-        0 => (Purpose::OneEvent, 2 * turn),
-        12 => (Purpose::OneEvent, 2 * turn + 1),
-        5 => (Purpose::LastRegister, turn),
-        15 => (Purpose::OutOfRange, turn),
-        20 => (Purpose::LongForm, turn),
-        25 => (Purpose::Registers, turn),
-        30 => (Purpose::Nodes, turn),
+    Some(match (index % 40, turn % 5) {
+        (0, _) => (Purpose::OneEvent, 2 * turn),
+        (12, _) => (Purpose::OneEvent, 2 * turn + 1),
+        (5, _) => (Purpose::LastRegister, turn),
+        (15, _) => (Purpose::OutOfRange, turn),
+        (20, _) => (Purpose::LongForm, turn),
+        (25, _) => (Purpose::Registers, turn),
+        (30, _) => (Purpose::Nodes, turn),
         // These take the longest to answer.
-        35 if turn % 5 == 0 => (Purpose::Many, turn / 5),
-        35 if turn % 5 == 2 => (Purpose::Long, turn / 5),
+        (35, 0) => (Purpose::Many, turn / 5),
+        (35, 2) => (Purpose::Long, turn / 5),
         _ => return None,
     })
 }
@@ -74,11 +74,7 @@ pub fn special_file(dice: &mut Dice, (purpose, turn): (Purpose, u64)) -> Vec<u8>
     if dice.percent(50) {
         draft.shuffle(dice);
     }
-    bytes(&draft)
-}
-
-fn bytes(draft: &Draft) -> Vec<u8> {
-    file::write(&draft.graph(), &draft.rows.concat())
+    draft.file()
 }
 
 /// How a round goes wrong when its test is inverted.
@@ -262,7 +258,7 @@ fn last_register(dice: &mut Dice) -> Draft {
 fn out_of_range(dice: &mut Dice, turn: u64) -> Vec<u8> {
     let nodes = dice.between(6, 30) as usize;
     let draft = structured(dice, 12, nodes);
-    let mut numbers = file::numbers(&draft.graph(), &draft.rows.concat());
+    let mut numbers = draft.numbers();
     (numbers[0], numbers[1]) = match turn % 4 {
         0 => (0, numbers[1]),
         1 => (65, numbers[1]),
@@ -286,7 +282,7 @@ fn out_of_range(dice: &mut Dice, turn: u64) -> Vec<u8> {
 /// end: R, a port, or any.
 fn longer_number(dice: &mut Dice, turn: u64) -> Vec<u8> {
     let draft = guarded(dice, 3, Guard::in_turn(turn));
-    let numbers = file::numbers(&draft.graph(), &draft.rows.concat());
+    let numbers = draft.numbers();
     let place = match turn % 4 {
         0 => 0,
         1 | 2 => {

@@ -260,7 +260,7 @@ impl Assembly {
             nodes: self.drafts.len() as u32,
             entry,
         };
-        Ok(file::write(&graph, &table))
+        Ok(file::encode(&file::numbers(&graph, &table)))
     }
 
     fn resolve(&self, node: usize, target: &Target) -> Result<u32, Error> {

@@ -3,9 +3,9 @@
 use second::arguments::decimal;
 use second::campaign::{campaign, Score};
 use second::file;
-use second::graph::{Graph, NODE_WORDS};
+use second::graph::{Graph, Row, BRANCH_WORD, NODE_WORDS};
 use second::harden::harden;
-use second::programs::{hlist, hrun, hscore, read, read_hardened, TABLE_WORDS};
+use second::programs::{hfile, hlist, hrun, hscore, read, read_hardened, TABLE_WORDS};
 use second::refusal::Refusal;
 use second::run::{run, Answer, Outcome};
 use second::table::{check_runnable, check_source};
@@ -73,9 +73,50 @@ fn refusal(number: u32, place: u32) -> Refusal {
     Refusal { number, place }
 }
 
+fn graph(registers: u32, nodes: u32, entry: u32) -> Graph {
+    Graph {
+        registers,
+        nodes,
+        entry,
+    }
+}
+
 #[test]
 fn the_listing_byte_for_byte() {
     assert_eq!(hlist(GRAPH_A), LISTING);
+}
+
+/// The numbers of the listing without node numbers and spare words, none of
+/// which needs a second byte.
+#[test]
+fn the_hardened_file_is_the_listing_in_bytes() {
+    let file = [
+        4, 20, 5, 5, 0, 1, 4, 0, 0, 7, 7, 8, 6, 1, 0, 14, 1, 1, 9, 17, 7, 1, 1, 2, 1, 0, 8, 1, 3,
+        3, 9, 1, 3, 2, 9, 4, 0, 0, 7, 10, 12, 2, 4, 2, 2, 3, 11, 4, 1, 2, 2, 6, 2, 2, 4, 2, 2, 3,
+        13, 4, 1, 2, 3, 6, 3, 1, 3, 6, 15, 2, 4, 2, 2, 3, 16, 4, 1, 2, 4, 6, 4, 1, 3, 7, 18, 2, 4,
+        2, 2, 3, 19, 4, 1, 2, 4, 6, 4,
+    ];
+    assert_eq!(hfile(&[], GRAPH_A), Ok(file.to_vec()));
+    assert_eq!(hfile(&words("plain"), GRAPH_A), Ok(GRAPH_A.to_vec()));
+    let run = |line: &str, file: &[u8]| hrun(&words(line), file).unwrap();
+    assert_eq!(
+        run("plain 100 2 none 7", &file),
+        run("hardened 100 2 none 7", GRAPH_A)
+    );
+}
+
+#[test]
+fn no_file_for_a_refused_source() {
+    let plain = words("plain");
+    let line = |line: &str| Err(line.to_string());
+    assert_eq!(hfile(&[], &[]), line("refused 1 0"));
+    assert_eq!(hfile(&plain, &[0x80, 0]), line("refused 2 0"));
+    let catch = [1, 2, 0, 7, 0, 8];
+    assert_eq!(hfile(&[], &catch), line("refused 5 6"));
+    assert_eq!(hfile(&plain, &catch), Ok(catch.to_vec()));
+    let longer = [GRAPH_A, &[0; 40_000]].concat();
+    assert_eq!(hfile(&[], &longer), line("refused 10 22"));
+    assert_eq!(hfile(&plain, &longer), line("refused 10 22"));
 }
 
 #[test]
@@ -242,11 +283,6 @@ fn the_hardener_refuses_with_table_places() {
 
 #[test]
 fn tables_are_checked_in_order() {
-    let graph = |registers, nodes, entry| Graph {
-        registers,
-        nodes,
-        entry,
-    };
     let ret = [7, 0, 0, 0, 0, 0];
     assert_eq!(check_runnable(&graph(65, 9, 9), &ret), Err(refusal(3, 0)));
     assert_eq!(check_runnable(&graph(1, 2, 9), &ret), Err(refusal(4, 12)));
@@ -301,9 +337,90 @@ fn the_longest_file() {
     let (graph, table) = read(&bytes).unwrap();
     assert_eq!(table.len(), TABLE_WORDS);
     assert_eq!(graph.nodes as usize * NODE_WORDS, TABLE_WORDS);
-    assert_eq!(file::write(&graph, &table), bytes);
+    let mut short = vec![3; 24_604];
+    let refused = file::write(&graph, &table, &mut short);
+    assert_eq!(refused, Err(refusal(15, 24_605)));
+    assert!(short.iter().all(|&byte| byte == 3));
+    let mut out = vec![3; 24_605];
+    assert_eq!(file::write(&graph, &table, &mut out), Ok(24_605));
+    assert_eq!(out, bytes);
     bytes.extend(vec![0; 9000]);
     assert_eq!(read(&bytes), Err(refusal(10, 24_605)));
+}
+
+/// A number takes no fewer bytes than a smaller one, so each field at its
+/// last value makes the longest node of its kind.
+#[test]
+fn no_file_is_longer() {
+    let last: [Row; 8] = [
+        [1, 63, u32::MAX, 2049, 0, 0],
+        [2, 6, 63, 63, 63, 2049],
+        [3, 5, 63, 63, 2049, 2049],
+        [4, 5, 63, u32::MAX, 2049, 2049],
+        [5, 63, 2049, 0, 0, 0],
+        [6, 255, 63, 2049, 0, 0],
+        [7, 63, 0, 0, 0, 0],
+        [8, 0, 0, 0, 0, 0],
+    ];
+    let mut out = vec![0; file::LONGEST];
+    for row in last {
+        let length = file::write(&graph(64, 2050, 2049), &row.repeat(2050), &mut out).unwrap();
+        assert_eq!(length == file::LONGEST, row[0] == BRANCH_WORD, "{row:?}");
+    }
+    for (least, length) in [
+        ([4, 0, 0, 1 << 28, 128, 128], 24_605),
+        ([4, 0, 0, (1 << 28) - 1, 128, 128], 24_605 - 2050),
+        ([4, 0, 0, 1 << 28, 127, 128], 24_605 - 2050),
+        ([4, 0, 0, 1 << 28, 128, 127], 24_605 - 2050),
+    ] {
+        let table = least.repeat(2050);
+        assert_eq!(
+            file::write(&graph(1, 2050, 128), &table, &mut out),
+            Ok(length)
+        );
+    }
+}
+
+#[test]
+fn graph_a_is_written_as_its_bytes() {
+    let (graph, table) = read(GRAPH_A).unwrap();
+    let mut exact = vec![3; 22];
+    assert_eq!(file::write(&graph, &table[..30], &mut exact), Ok(22));
+    assert_eq!(exact, GRAPH_A);
+    let mut longer = vec![3; 25];
+    assert_eq!(file::write(&graph, &table, &mut longer), Ok(22));
+    assert_eq!((&longer[..22], &longer[22..]), (GRAPH_A, &[3; 3][..]));
+}
+
+/// Each table has one fault, and all that come after it in the order.
+#[test]
+fn the_writer_refuses_in_order() {
+    let good = [7, 0, 0, 0, 0, 0];
+    let both = |first: Row, second: Row| [first, second].concat();
+    let bad = [9; 6];
+    let mut out = vec![3; 6];
+    for ((registers, nodes, entry), table, expected) in [
+        ((0, 0, 9), vec![], refusal(3, 0)),
+        ((65, 2, 9), vec![], refusal(3, 0)),
+        ((1, 0, 9), vec![], refusal(3, 0)),
+        ((1, 2051, 9), vec![], refusal(3, 0)),
+        ((u32::MAX, u32::MAX, u32::MAX), vec![], refusal(3, 0)),
+        ((1, 2, 9), bad[..5].to_vec(), refusal(4, 12)),
+        ((1, 2, 2), both(bad, bad), refusal(7, 0)),
+        ((1, 2, u32::MAX), both(bad, bad), refusal(7, 0)),
+        ((1, 2, 1), both(bad, bad), refusal(5, 0)),
+        ((1, 2, 1), both([7, 1, 1, 0, 0, 0], bad), refusal(6, 1)),
+        ((1, 2, 1), both([5, 0, 2, 1, 0, 0], bad), refusal(7, 2)),
+        ((1, 2, 1), both([8, 0, 0, 0, 0, 1], bad), refusal(8, 5)),
+        ((1, 2, 1), both(good, bad), refusal(5, 6)),
+        ((1, 2, 1), both(good, good), refusal(15, 7)),
+    ] {
+        let refused = file::write(&graph(registers, nodes, entry), &table, &mut out);
+        assert_eq!(refused, Err(expected), "{table:?}");
+        assert_eq!(out, [3; 6]);
+    }
+    let refused = file::write(&graph(1, 2, 1), &both(good, good), &mut []);
+    assert_eq!(refused, Err(refusal(15, 7)));
 }
 
 #[test]
@@ -340,6 +457,20 @@ fn bad_arguments_are_named() {
     }
     let blank = ["plain", " 1", "1", "none"].map(String::from);
     assert_eq!(hrun(&blank, GRAPH_A), budget);
+}
+
+#[test]
+fn hfile_takes_one_word_or_none() {
+    let line = |what: &str| Err(format!("argument {what}"));
+    let first = line("1: expected plain, or no argument");
+    for bad in ["", "hardened", "Plain", "plainx", "plain ", "plai"] {
+        assert_eq!(hfile(&[bad.to_string()], GRAPH_A), first, "{bad:?}");
+        let followed = [bad, "plain"].map(String::from);
+        assert_eq!(hfile(&followed, &[]), first, "{bad:?}");
+    }
+    let second = line("2: expected no more than one argument");
+    assert_eq!(hfile(&words("plain plain"), GRAPH_A), second);
+    assert_eq!(hfile(&words("plain x y"), &[]), second);
 }
 
 #[test]

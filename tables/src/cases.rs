@@ -27,9 +27,8 @@ pub fn material(dice: &mut Dice) -> Material {
         0 => late(dice),
         _ => any_shape(dice),
     };
-    let whole = damage::sound(&draft);
     let file = match dice.percent(50) {
-        true => second::file::write(&draft.graph(), &whole.table),
+        true => draft.file(),
         false => second::damage::damaged(dice, &draft),
     };
     let plain = damage::held(dice, &draft);
