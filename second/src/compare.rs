@@ -1,11 +1,14 @@
-//! The comparison: every answer of the given programs held against the
-//! second program's, byte for byte, and demand 3 tried on the same graphs.
+//! The comparison: every answer of the given programs held against the second
+//! program's, byte for byte; on the same graphs demand 3 is tried, and hardened
+//! files are read back.
 
+use crate::arguments::{file_arguments, Mode};
 use crate::demand3;
 use crate::generate::{case, Case, Line};
 use crate::mix::{Marks, Mix};
 use crate::observe::{End, Programs, Said, Starter};
-use crate::programs::{hlist, hrun, hscore, hscore_watched};
+use crate::programs::{hfile, hlist, hrun, hscore, hscore_watched};
+use crate::readback::{self, Heard};
 use crate::report::{difference, hex, spoken};
 use std::sync::atomic::{AtomicU64, Ordering};
 use std::sync::Mutex;
@@ -28,9 +31,14 @@ pub struct Options {
 pub struct Tally {
     pub graphs: u64,
     pub listings: u64,
+    pub files: u64,
+    /// Sources and files of which `hfile` put out none.
+    pub refused_files: u64,
     pub runs: u64,
     pub scores: u64,
     pub bad_arguments: u64,
+    pub runs_back: u64,
+    pub scores_back: u64,
     pub follows: u64,
     pub inversions: u64,
     pub hardened_scores: u64,
@@ -45,9 +53,13 @@ pub struct Tally {
 impl Tally {
     fn compared(&self) -> u64 {
         self.listings
+            + self.files
+            + self.refused_files
             + self.runs
             + self.scores
             + self.bad_arguments
+            + self.runs_back
+            + self.scores_back
             + self.tried()
             + self.broken
             + self.wanted
@@ -61,9 +73,13 @@ impl Tally {
     fn join(&mut self, other: &Tally) {
         self.graphs += other.graphs;
         self.listings += other.listings;
+        self.files += other.files;
+        self.refused_files += other.refused_files;
         self.runs += other.runs;
         self.scores += other.scores;
         self.bad_arguments += other.bad_arguments;
+        self.runs_back += other.runs_back;
+        self.scores_back += other.scores_back;
         self.follows += other.follows;
         self.inversions += other.inversions;
         self.hardened_scores += other.hardened_scores;
@@ -84,13 +100,18 @@ impl Tally {
             self.compared() as f64 / seconds
         );
         println!(
-            "counted: {} listings, {} runs, {} scores and {} bad command lines compared; \
+            "counted: {} listings, {} files, {} refused files, {} runs, {} scores and \
+             {} bad command lines compared; {} runs and {} scores of hardened files read back; \
              for demand 3: {} runs followed, {} inversions, {} hardened scores; \
              {} sorts that must not be lacking",
             self.listings,
+            self.files,
+            self.refused_files,
             self.runs,
             self.scores,
             self.bad_arguments,
+            self.runs_back,
+            self.scores_back,
             self.follows,
             self.inversions,
             self.hardened_scores,
@@ -110,6 +131,7 @@ pub struct Trial<'a> {
     pub programs: &'a Programs,
     pub starter: &'a Starter,
     pub tally: Tally,
+    pub heard: Vec<Heard>,
     pub reports: Vec<String>,
 }
 
@@ -120,40 +142,46 @@ impl<'a> Trial<'a> {
             programs,
             starter,
             tally: Tally::default(),
+            heard: Vec::new(),
             reports: Vec::new(),
         }
     }
 
-    /// Compares every answer to the case, then tries demand 3 on it.
+    /// Compares every answer to the case, then tries demand 3 on it and reads
+    /// its hardened file back.
     pub fn make(&mut self) {
         let case = self.case;
         self.tally.graphs = 1;
         self.tally.mix.graph(&case.file);
         for (program, line) in case.lines() {
-            let expected = expected(case, program, line, &mut self.tally.mix);
-            self.answer(program, line, &expected);
+            self.ask(program, line);
         }
         demand3::try_on(self);
+        readback::try_on(self);
     }
 
-    fn answer(&mut self, program: &str, line: &Line, expected: &Said) {
+    /// Compares one answer.
+    pub fn ask(&mut self, program: &'static str, line: &Line) {
+        let expected = expected(self.case, program, line, &mut self.tally.mix);
         let Some(said) = self.start(program, line) else {
             return;
         };
         match program {
-            _ if !expected.errors.is_empty() => self.tally.bad_arguments += 1,
+            _ if expected.errors.starts_with(b"argument") => self.tally.bad_arguments += 1,
             "hlist" => self.tally.listings += 1,
+            "hfile" if expected.errors.is_empty() => self.tally.files += 1,
+            "hfile" => self.tally.refused_files += 1,
             "hrun" => self.tally.runs += 1,
             _ => self.tally.scores += 1,
         }
-        if said != *expected {
-            self.fail(program, line, &difference(&said, expected));
+        if said != expected {
+            self.fail(program, line, &difference(&said, &expected));
         }
     }
 
     /// What a program prints; one that says more than its output, or does not
     /// end as it must, fails the case.
-    pub fn output(&mut self, program: &str, line: &Line) -> Option<String> {
+    pub fn output(&mut self, program: &'static str, line: &Line) -> Option<String> {
         let said = self.start(program, line)?;
         let expected = Said::answer(&said.output);
         if said != expected {
@@ -164,18 +192,26 @@ impl<'a> Trial<'a> {
         Some(String::from_utf8_lossy(&said.output).into_owned())
     }
 
+    /// Starts a program on the case's file, and keeps what it says.
+    fn start(&mut self, program: &'static str, line: &Line) -> Option<Said> {
+        let case = self.case;
+        let said = self.start_on(program, line, &case.file)?;
+        self.heard.push(Heard {
+            program,
+            line: line.clone(),
+            said: said.clone(),
+        });
+        Some(said)
+    }
+
     /// Starts a program; one that cannot be started fails the case, and
     /// after one that hung the case is left.
-    fn start(&mut self, program: &str, line: &Line) -> Option<Said> {
+    pub fn start_on(&mut self, program: &str, line: &Line, file: &[u8]) -> Option<Said> {
         if self.tally.hung {
             return None;
         }
-        let path = match program {
-            "hlist" => &self.programs.hlist,
-            "hrun" => &self.programs.hrun,
-            _ => &self.programs.hscore,
-        };
-        match self.starter.start(path, line, &self.case.file) {
+        let path = self.programs.path(program);
+        match self.starter.start(path, line, file) {
             Ok(said) => {
                 self.tally.hung = said.end == End::Hung;
                 Some(said)
@@ -195,8 +231,9 @@ impl<'a> Trial<'a> {
         let (seed, index) = (self.case.seed, self.case.index);
         let hex = hex(&self.case.file);
         let again = format!(
-            "second case --seed {seed} --index {index} --hlist {} --hrun {} --hscore {}",
+            "second case --seed {seed} --index {index} --hlist {} --hfile {} --hrun {} --hscore {}",
             self.programs.hlist.display(),
+            self.programs.hfile.display(),
             self.programs.hrun.display(),
             self.programs.hscore.display()
         );
@@ -214,6 +251,7 @@ fn expected(case: &Case, program: &str, line: &Line, mix: &mut Mix) -> Said {
     let mut marks = Marks::default();
     let answer = match program {
         "hlist" => Ok(hlist(&case.file)),
+        "hfile" => return expected_file(case, line, mix),
         "hrun" => hrun(line, &case.file),
         _ => hscore_watched(line, &case.file, &mut |run| marks.see(run)),
     };
@@ -230,6 +268,18 @@ fn expected(case: &Case, program: &str, line: &Line, mix: &mut Mix) -> Said {
             mix.add(&format!("{program}: bad arguments"));
             Said::complaint(&complaint)
         }
+    }
+}
+
+/// The file that `hfile` puts out. Of the graph as read it is the very file
+/// that was read, whatever the second program writes.
+fn expected_file(case: &Case, line: &Line, mix: &mut Mix) -> Said {
+    let answer = hfile(line, &case.file);
+    mix.file(line, &case.file, &answer);
+    match answer {
+        Ok(_) if file_arguments(line) == Ok(Mode::Plain) => Said::answer(&case.file),
+        Ok(file) => Said::answer(&file),
+        Err(complaint) => Said::complaint(&complaint),
     }
 }
 
@@ -292,6 +342,7 @@ pub fn show_case(seed: u64, index: u64, programs: Option<&Programs>) -> bool {
     for (program, line) in case.lines() {
         let answer = match program {
             "hlist" => Ok(hlist(&case.file)),
+            "hfile" => hfile(line, &case.file).map(|file| hex(&file) + "\n"),
             "hrun" => hrun(line, &case.file),
             _ => hscore(line, &case.file),
         };
@@ -310,7 +361,7 @@ pub fn show_case(seed: u64, index: u64, programs: Option<&Programs>) -> bool {
 }
 
 fn shown(answer: Result<String, String>) -> String {
-    answer.unwrap_or_else(|error| format!("(bad arguments) {error}\n"))
+    answer.unwrap_or_else(|line| format!("(standard error) {line}\n"))
 }
 
 #[cfg(test)]
@@ -325,8 +376,20 @@ mod tests {
             for index in 0..1_000 {
                 let case = case(seed, index);
                 mix.graph(&case.file);
+                let mut heard = Vec::new();
                 for (program, line) in case.lines() {
-                    expected(&case, program, line, &mut mix);
+                    let said = expected(&case, program, line, &mut mix);
+                    let line = line.clone();
+                    heard.push(Heard {
+                        program,
+                        line,
+                        said,
+                    });
+                }
+                for program in readback::programs(&case) {
+                    if let Some(one) = readback::chosen(program, &heard) {
+                        mix.read_back(program, &one.said.output);
+                    }
                 }
             }
             assert_eq!(mix.lacking(1_000).1, Vec::<String>::new(), "seed {seed}");

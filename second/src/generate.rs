@@ -18,6 +18,7 @@ pub struct Case {
     pub file: Vec<u8>,
     pub input: Vec<u32>,
     pub lists: Vec<Line>,
+    pub files: Vec<Line>,
     pub runs: Vec<Line>,
     pub scores: Vec<Line>,
 }
@@ -26,9 +27,10 @@ impl Case {
     /// Every command line with the program that it is for.
     pub fn lines(&self) -> impl Iterator<Item = (&'static str, &Line)> {
         let lists = self.lists.iter().map(|line| ("hlist", line));
+        let files = self.files.iter().map(|line| ("hfile", line));
         let runs = self.runs.iter().map(|line| ("hrun", line));
         let scores = self.scores.iter().map(|line| ("hscore", line));
-        lists.chain(runs).chain(scores)
+        lists.chain(files).chain(runs).chain(scores)
     }
 }
 
@@ -60,6 +62,7 @@ pub fn case(seed: u64, index: u64) -> Case {
         purpose: purpose.map(|(purpose, _)| purpose),
     };
     let lists = writer.lists();
+    let files = writer.files();
     let runs = writer.runs();
     let scores = writer.scores();
     Case {
@@ -68,6 +71,7 @@ pub fn case(seed: u64, index: u64) -> Case {
         file,
         input,
         lists,
+        files,
         runs,
         scores,
     }
@@ -128,6 +132,29 @@ const BAD_NUMBERS: [&str; 10] = [
     "٣",
 ];
 
+/// Bad command lines of `hfile`: words that are nearly the one it takes, and
+/// more than one.
+const BAD_FILE_LINES: [&[&str]; 18] = [
+    &["hardened"],
+    &["plain", "plain"],
+    &[""],
+    &["Plain"],
+    &["plainn"],
+    &["plain", ""],
+    &["plai"],
+    &["plain "],
+    &["hardened", "plain"],
+    &["plain", "x", "y"],
+    &[" plain"],
+    &["plainplainplainplain"],
+    &["", "plain"],
+    &["plain\n"],
+    &["plainplainplain"],
+    &["plainplainplainp"],
+    &["none"],
+    &["--help"],
+];
+
 /// Chooses the command lines for a file from what its runs show.
 struct Writer<'a> {
     dice: &'a mut Dice,
@@ -147,6 +174,16 @@ impl Writer<'_> {
             let count = self.dice.between(1, 4);
             let line = (0..count).map(|_| self.dice.pick(&words).to_string());
             lines.push(line.collect());
+        }
+        lines
+    }
+
+    /// `hfile` writes the graph hardened and as it is; in turn it is given a
+    /// bad command line.
+    fn files(&self) -> Vec<Line> {
+        let mut lines = vec![Vec::new(), vec!["plain".to_string()]];
+        if self.index % 7 == 3 {
+            lines.push(bad_file_line(self.index as usize / 7));
         }
         lines
     }
@@ -424,12 +461,28 @@ impl Writer<'_> {
     }
 }
 
+fn bad_file_line(turn: usize) -> Line {
+    let plain = "plain".to_string();
+    let known = BAD_FILE_LINES.len();
+    match turn % (known + 3) {
+        short if short < known => BAD_FILE_LINES[short]
+            .iter()
+            .map(|w| w.to_string())
+            .collect(),
+        // To a byte that counts them, these are five letters, no word and one.
+        long if long == known => vec![plain + &"n".repeat(256)],
+        many if many == known + 1 => vec![plain; 256],
+        _ => vec![plain; 257],
+    }
+}
+
 #[cfg(test)]
 mod tests {
     use super::*;
     use crate::campaign::campaign;
     use crate::fast::{campaign_forked, campaign_rerun, run_fast};
     use crate::file;
+    use crate::programs::hfile;
     use crate::text::{assemble, show};
 
     const CASES: u64 = 400;
@@ -442,6 +495,16 @@ mod tests {
             assert!(one.lines().eq(other.lines()));
         }
         assert_ne!(case(7, 0).file, case(8, 0).file);
+    }
+
+    #[test]
+    fn every_bad_line_of_hfile_is_bad() {
+        for turn in 0..BAD_FILE_LINES.len() + 3 {
+            let line = bad_file_line(turn);
+            let place = if line[0] == "plain" { 2 } else { 1 };
+            let complaint = hfile(&line, &[]).unwrap_err();
+            assert!(complaint.starts_with(&format!("argument {place}:")));
+        }
     }
 
     #[test]

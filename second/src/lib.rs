@@ -19,6 +19,7 @@ pub mod mix;
 pub mod observe;
 pub mod options;
 pub mod programs;
+pub mod readback;
 pub mod refusal;
 pub mod report;
 pub mod run;

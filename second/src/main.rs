@@ -18,8 +18,8 @@ const USAGE: &str = "expected one of:
   hscore MODE BUDGET ROOM [WORD ..] < FILE
   assemble < TEXT > FILE
   show < FILE
-  compare --hlist PATH --hrun PATH --hscore PATH --cases N --seed S [--seconds T] [--jobs J]
-  case --seed S --index I [--hlist PATH --hrun PATH --hscore PATH]
+  compare --hlist PATH --hfile PATH --hrun PATH --hscore PATH --cases N --seed S [--seconds T] [--jobs J]
+  case --seed S --index I [--hlist PATH --hfile PATH --hrun PATH --hscore PATH]
   examples [--hscore PATH] [--directory PATH]";
 
 fn main() -> ExitCode {
@@ -78,7 +78,7 @@ fn show_file() -> Result<bool, String> {
 
 fn compare_programs(rest: &[String]) -> Result<bool, String> {
     let known = [
-        "hlist", "hrun", "hscore", "cases", "seed", "seconds", "jobs",
+        "hlist", "hfile", "hrun", "hscore", "cases", "seed", "seconds", "jobs",
     ];
     let options = Options::parse(rest, &known)?;
     let cases = options.required_number("cases")?;
@@ -95,12 +95,10 @@ fn compare_programs(rest: &[String]) -> Result<bool, String> {
 }
 
 fn one_case(rest: &[String]) -> Result<bool, String> {
-    let known = ["seed", "index", "hlist", "hrun", "hscore"];
-    let options = Options::parse(rest, &known)?;
-    let programs = match options.path("hlist") {
-        Some(_) => Some(options.programs()?),
-        None => None,
-    };
+    let paths = ["hlist", "hfile", "hrun", "hscore"];
+    let options = Options::parse(rest, &[&paths[..], &["seed", "index"]].concat())?;
+    let compared = paths.iter().any(|name| options.path(name).is_some());
+    let programs = compared.then(|| options.programs()).transpose()?;
     let seed = options.required_number("seed")?;
     let index = options.required_number("index")?;
     Ok(show_case(seed, index, programs.as_ref()))

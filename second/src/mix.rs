@@ -1,7 +1,7 @@
 //! What a comparison was made of: how often each kind of answer, graph and
 //! command line occurred, and what must not be lacking.
 
-use crate::arguments::decimal;
+use crate::arguments::{decimal, file_arguments, Mode};
 use crate::campaign::Disturbed;
 use crate::damage::{meaning, Limited};
 use crate::file;
@@ -28,9 +28,9 @@ const CLASSES: [&str; 6] = [
 /// From so many cases on nothing may be lacking.
 const ENOUGH: u64 = 1_000;
 
-/// How often a thousand cases have each of these at least; they are made in
-/// turn and not by chance, about twice as often.
-const WANTED: [(&str, u64); 26] = [
+/// How often a thousand cases have each of these at least, about half as often
+/// as they do. What chance brings too seldom is made in turn.
+const WANTED: [(&str, u64); 41] = [
     ("graphs: R 25 to 59", 20),
     ("graphs: N 258 to 2048", 15),
     ("files: R 0", 3),
@@ -41,6 +41,21 @@ const WANTED: [(&str, u64); 26] = [
     ("files: longer form of R", 3),
     ("files: longer form of a port", 6),
     ("hlist: given arguments", 50),
+    ("hfile: hardened written", 250),
+    ("hfile: hardened refused", 200),
+    ("hfile: hardened over 4,096 bytes", 7),
+    ("hfile: hardened with numbers of 2 bytes", 120),
+    ("hfile: hardened with numbers of 3 bytes", 50),
+    ("hfile: hardened with numbers of 4 bytes", 60),
+    ("hfile: hardened with numbers of 5 bytes", 150),
+    ("hfile: plain written", 400),
+    ("hfile: plain refused", 80),
+    ("hfile: plain as long as can be", 3),
+    ("hfile: bad argument 1", 50),
+    ("hfile: bad argument 2", 15),
+    ("hfile: bad arguments for a refused file", 8),
+    ("hfile: runs read back", 110),
+    ("hfile: scores read back", 150),
     ("hrun: returned register 63", 10),
     ("hrun: disturbed, over 50,000 steps, returned", 2),
     ("hrun: plainx", 2),
@@ -178,10 +193,10 @@ impl Mix {
 
     /// Takes up a command line by the odd ways in which it is written.
     pub fn line(&mut self, program: &str, line: &Line) {
-        if program == "hlist" {
-            if !line.is_empty() {
-                self.add("hlist: given arguments");
-            }
+        if program == "hlist" && !line.is_empty() {
+            self.add("hlist: given arguments");
+        }
+        if program == "hlist" || program == "hfile" {
             return;
         }
         for (place, word) in line.iter().enumerate() {
@@ -193,6 +208,48 @@ impl Mix {
         if line.first().is_some_and(|word| word == "plainx") {
             self.add(&format!("{program}: plainx"));
         }
+    }
+
+    /// Takes up what `hfile` makes of a file: how long it and its numbers are,
+    /// or why there is nothing.
+    pub fn file(&mut self, line: &Line, source: &[u8], answer: &Result<Vec<u8>, String>) {
+        let graph = match file_arguments(line) {
+            Ok(Mode::Hardened) => "hardened",
+            Ok(Mode::Plain) => "plain",
+            Err(complaint) => {
+                if read(source).is_err() {
+                    self.add("hfile: bad arguments for a refused file");
+                }
+                let place = complaint.split(':').next().unwrap_or("");
+                return self.add(&format!("hfile: bad {place}"));
+            }
+        };
+        let Ok(file) = answer else {
+            return self.add(&format!("hfile: {graph} refused"));
+        };
+        self.add(&format!("hfile: {graph} written"));
+        if file.len() > 4_096 {
+            self.add(&format!("hfile: {graph} over 4,096 bytes"));
+        }
+        if file.len() == file::LONGEST {
+            self.add(&format!("hfile: {graph} as long as can be"));
+        }
+        for length in 2..=5 {
+            let mut numbers = file.split_inclusive(|byte| *byte < 0x80);
+            if numbers.any(|number| number.len() == length) {
+                self.add(&format!("hfile: {graph} with numbers of {length} bytes"));
+            }
+        }
+    }
+
+    /// Takes up a hardened file that was read back, by what its source answers.
+    pub fn read_back(&mut self, program: &str, answer: &[u8]) {
+        self.add(match (program, answer.starts_with(b"refused")) {
+            ("hrun", false) => "hfile: runs read back",
+            ("hrun", true) => "hfile: refused runs read back",
+            (_, false) => "hfile: scores read back",
+            (_, true) => "hfile: refused scores read back",
+        });
     }
 
     /// Takes up a graph file by the limits it touches.
@@ -402,6 +459,32 @@ mod tests {
         }
         assert!(mix.lacking(1_999).1.is_empty());
         assert_eq!(mix.lacking(2_000).1.len(), wanted().len());
+    }
+
+    #[test]
+    fn files_by_their_length_and_their_numbers() {
+        let mut mix = Mix::default();
+        let plain = vec!["plain".to_string()];
+        let file = [&[0x80, 1][..], &[0xff, 0xff, 0xff, 0xff, 0x0f], &[0; 4_089]].concat();
+        mix.file(&plain, &file, &Ok(file.clone()));
+        mix.file(&plain, &file, &Ok([&file[..], &[0]].concat()));
+        mix.file(&Vec::new(), &file, &Ok(vec![0; file::LONGEST]));
+        mix.file(&Vec::new(), &[], &Err("refused 1 0".to_string()));
+        mix.file(&["plain", ""].map(String::from).to_vec(), &[], &Ok(vec![]));
+        let seen: Vec<(&str, u64)> = mix.0.iter().map(|(name, n)| (&name[7..], *n)).collect();
+        let expected = [
+            ("bad argument 2", 1),
+            ("bad arguments for a refused file", 1),
+            ("hardened as long as can be", 1),
+            ("hardened over 4,096 bytes", 1),
+            ("hardened refused", 1),
+            ("hardened written", 1),
+            ("plain over 4,096 bytes", 1),
+            ("plain with numbers of 2 bytes", 2),
+            ("plain with numbers of 5 bytes", 2),
+            ("plain written", 2),
+        ];
+        assert_eq!(seen, expected);
     }
 
     #[test]

@@ -12,12 +12,24 @@ use std::time::{Duration, Instant};
 /// Far more than any answer takes.
 const PATIENCE: Duration = Duration::from_secs(60);
 
-/// The paths of the three programs.
+/// The paths of the programs.
 #[derive(Clone)]
 pub struct Programs {
     pub hlist: PathBuf,
+    pub hfile: PathBuf,
     pub hrun: PathBuf,
     pub hscore: PathBuf,
+}
+
+impl Programs {
+    pub fn path(&self, program: &str) -> &Path {
+        match program {
+            "hlist" => &self.hlist,
+            "hfile" => &self.hfile,
+            "hrun" => &self.hrun,
+            _ => &self.hscore,
+        }
+    }
 }
 
 /// How a program came to its end.
@@ -47,7 +59,8 @@ impl Said {
         }
     }
 
-    /// What a bad argument looks like: its line on standard error, no output.
+    /// What a bad argument looks like, and to `hfile` a refusal: a line on
+    /// standard error, no output.
     pub fn complaint(line: &str) -> Self {
         Said {
             output: Vec::new(),

@@ -48,6 +48,7 @@ impl Options {
     pub fn programs(&self) -> Result<Programs, String> {
         Ok(Programs {
             hlist: self.required_path("hlist")?,
+            hfile: self.required_path("hfile")?,
             hrun: self.required_path("hrun")?,
             hscore: self.required_path("hscore")?,
         })

@@ -471,6 +471,11 @@ pub fn sized_program(dice: &mut Dice, registers: u32, nodes: usize) -> Draft {
 /// Nothing but branches, up to the largest hardened graph there is.
 fn all_branches(dice: &mut Dice) -> Draft {
     let nodes = dice.pick(&[1, 2, 3, 16, 255, 256, 256, 257]);
+    branches(dice, nodes)
+}
+
+/// So many branches, the last at times a `ret`.
+pub fn branches(dice: &mut Dice, nodes: u32) -> Draft {
     let registers = dice.pick(&[1, 3, 62, 62]);
     let near = dice.percent(60);
     let mut rows: Vec<Row> = (0..nodes)
@@ -493,7 +498,7 @@ fn all_branches(dice: &mut Dice) -> Draft {
 
 /// The longest file there is: branches with words of five bytes and targets
 /// of two, as many as a runnable graph may have.
-fn longest(dice: &mut Dice) -> Draft {
+pub fn longest(dice: &mut Dice) -> Draft {
     let nodes = RUNNABLE.nodes;
     let row = |dice: &mut Dice| {
         let word = dice.between(1 << 28, u32::MAX - 1);

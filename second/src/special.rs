@@ -6,7 +6,7 @@ use crate::dice::Dice;
 use crate::file;
 use crate::graph::*;
 use crate::run::LAST_BUDGET;
-use crate::shapes::{sized_program, structured, Draft};
+use crate::shapes::{branches, longest, sized_program, structured, Draft};
 
 #[derive(Clone, Copy, Debug, PartialEq, Eq)]
 pub enum Purpose {
@@ -26,6 +26,10 @@ pub enum Purpose {
     Registers,
     /// N from 258 to 2,048.
     Nodes,
+    /// The longest file there is.
+    Longest,
+    /// A source whose hardened file is a long one.
+    Branches,
 }
 
 /// What a case is for, and how many cases had the same purpose before it.
@@ -42,6 +46,8 @@ pub fn purpose(index: u64) -> Option<(Purpose, u64)> {
         // These take the longest to answer.
         (35, 0) => (Purpose::Many, turn / 5),
         (35, 2) => (Purpose::Long, turn / 5),
+        (35, 1) => (Purpose::Longest, turn / 5),
+        (35, rest) => (Purpose::Branches, 2 * (turn / 5) + rest - 3),
         _ => return None,
     })
 }
@@ -69,6 +75,12 @@ pub fn special_file(dice: &mut Dice, (purpose, turn): (Purpose, u64)) -> Vec<u8>
         Purpose::Nodes => {
             let (registers, nodes) = (dice.between(7, 64), dice.between(258, 2048));
             sized_program(dice, registers, nodes as usize)
+        }
+        // Shuffled it would not be as long.
+        Purpose::Longest => return longest(dice).file(),
+        Purpose::Branches => {
+            let nodes = dice.between(200, 256);
+            branches(dice, nodes)
         }
     };
     if dice.percent(50) {
