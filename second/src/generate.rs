@@ -462,16 +462,15 @@ impl Writer<'_> {
 }
 
 fn bad_file_line(turn: usize) -> Line {
+    let turn = turn % (BAD_FILE_LINES.len() + 3);
+    if let Some(words) = BAD_FILE_LINES.get(turn) {
+        return words.iter().map(|word| word.to_string()).collect();
+    }
     let plain = "plain".to_string();
-    let known = BAD_FILE_LINES.len();
-    match turn % (known + 3) {
-        short if short < known => BAD_FILE_LINES[short]
-            .iter()
-            .map(|w| w.to_string())
-            .collect(),
-        // To a byte that counts them, these are five letters, no word and one.
-        long if long == known => vec![plain + &"n".repeat(256)],
-        many if many == known + 1 => vec![plain; 256],
+    // To a byte that counts them, these are five letters, no word and one.
+    match turn - BAD_FILE_LINES.len() {
+        0 => vec![plain + &"n".repeat(256)],
+        1 => vec![plain; 256],
         _ => vec![plain; 257],
     }
 }
