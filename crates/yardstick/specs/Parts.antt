@@ -20,7 +20,7 @@ abbrev pub checkNumbers : Answer Unit → List ℕ
 checkNumbers (given _) = 0 ∷ 0 ∷ []
 checkNumbers (refused number place) = number ∷ place ∷ []
 
--- how many bytes a file has
+-- document 02, K2: how many bytes a file has
 abbrev pub sizeNumbers : Answer ℕ → List ℕ
 sizeNumbers (given size) = 0 ∷ 0 ∷ size ∷ []
 sizeNumbers (refused number place) = number ∷ place ∷ 0 ∷ []
