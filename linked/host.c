@@ -13,6 +13,7 @@ void free(void *);
 void exit(int status);
 
 number yardstick_read(const byte *, number, word *, number, number part);
+number yardstick_write(number, number, number, const word *, number, byte *, number, number part);
 number yardstick_check_runnable(number, number, number, const word *, number, number part);
 number yardstick_check_source(number, number, number, const word *, number, number part);
 number yardstick_harden(number, number, number, const word *, number, word *, number, number part);
@@ -21,8 +22,11 @@ number yardstick_run(number, number, number, const word *, number, const word *,
 number yardstick_campaign(number, number, number, const word *, number, const word *, number, word *, number, word *, number,
                           number budget, number part);
 
-// Words around a lent buffer that no call may touch.
-enum { GUARD = 5, MARK = 0x5ca1ab1e };
+// The buffers of a call, in the order in which they come: bytes that are read and bytes that are lent, then words.
+enum { BYTES, OUT, TABLE, INPUT, FIRST, SECOND, BUFFERS };
+
+// Bytes around each that no call may touch, so many that words stand where they may.
+enum { GUARD = 20, MARK = 0x5c };
 
 static void take(void *to, number bytes) {
     for (byte *at = to; bytes > 0;) {
@@ -42,48 +46,60 @@ static void give(const void *from, number bytes) {
     }
 }
 
-// So many words from the input, with guard words around them.
-static word *taken(number words) {
-    word *all = malloc((words + 2 * GUARD) * sizeof(word));
+static byte mark(number k) {
+    return MARK + 11 * k;
+}
+
+// So many bytes from the input, with guard bytes around them.
+static byte *taken(number bytes) {
+    byte *all = malloc(bytes + 2 * GUARD);
     if (!all) exit(1);
-    for (number k = 0; k < GUARD; k++) all[k] = all[GUARD + words + k] = MARK ^ (word)k;
-    take(all + GUARD, words * sizeof(word));
+    for (number k = 0; k < GUARD; k++) all[k] = all[GUARD + bytes + k] = mark(k);
+    take(all + GUARD, bytes);
     return all + GUARD;
 }
 
-static int touched(const word *words, number count) {
+static int touched(const byte *at, number bytes) {
     for (number k = 0; k < GUARD; k++)
-        if (words[k - GUARD] != (MARK ^ (word)k) || words[count + k] != (MARK ^ (word)k)) return 1;
+        if (at[k - GUARD] != mark(k) || at[bytes + k] != mark(k)) return 1;
+    return 0;
+}
+
+// The entry point by its number; then R, N and entry; budget, whether a branch is inverted, and which; the part.
+static number called(const number c[8], void *at[BUFFERS], const number n[BUFFERS]) {
+    switch (c[0]) {
+    case 0: return yardstick_read(at[BYTES], n[BYTES], at[FIRST], n[FIRST], c[7]);
+    case 1: return yardstick_check_runnable(c[1], c[2], c[3], at[TABLE], n[TABLE], c[7]);
+    case 2: return yardstick_check_source(c[1], c[2], c[3], at[TABLE], n[TABLE], c[7]);
+    case 3: return yardstick_harden(c[1], c[2], c[3], at[TABLE], n[TABLE], at[FIRST], n[FIRST], c[7]);
+    case 4:
+        return yardstick_run(c[1], c[2], c[3], at[TABLE], n[TABLE], at[INPUT], n[INPUT], at[FIRST], n[FIRST], c[4], c[5] != 0, c[6],
+                             c[7]);
+    case 5:
+        return yardstick_campaign(c[1], c[2], c[3], at[TABLE], n[TABLE], at[INPUT], n[INPUT], at[FIRST], n[FIRST], at[SECOND],
+                                  n[SECOND], c[4], c[7]);
+    case 6: return yardstick_write(c[1], c[2], c[3], at[TABLE], n[TABLE], at[OUT], n[OUT], c[7]);
+    default: exit(1);
+    }
     return 0;
 }
 
 int main(void) {
     for (;;) {
-        // the entry point; R, N and entry; budget, whether a branch is inverted, and which; the part; five lengths
-        number c[13];
+        number c[8], length[BUFFERS], bytes[BUFFERS], answer[2] = {0, 0};
+        void *at[BUFFERS];
         take(c, sizeof c);
-        byte *bytes = malloc(c[8] + 1);
-        if (!bytes) exit(1);
-        take(bytes, c[8]);
-        word *table = taken(c[9]), *input = taken(c[10]), *first = taken(c[11]), *second = taken(c[12]);
-        number answer[2] = {0, 0};
-        switch (c[0]) {
-        case 0: answer[0] = yardstick_read(bytes, c[8], first, c[11], c[7]); break;
-        case 1: answer[0] = yardstick_check_runnable(c[1], c[2], c[3], table, c[9], c[7]); break;
-        case 2: answer[0] = yardstick_check_source(c[1], c[2], c[3], table, c[9], c[7]); break;
-        case 3: answer[0] = yardstick_harden(c[1], c[2], c[3], table, c[9], first, c[11], c[7]); break;
-        case 4: answer[0] = yardstick_run(c[1], c[2], c[3], table, c[9], input, c[10], first, c[11], c[4], c[5] != 0, c[6], c[7]); break;
-        case 5: answer[0] = yardstick_campaign(c[1], c[2], c[3], table, c[9], input, c[10], first, c[11], second, c[12], c[4], c[7]); break;
-        default: exit(1);
+        take(length, sizeof length);
+        for (int k = 0; k < BUFFERS; k++) {
+            bytes[k] = length[k] * (k < TABLE ? 1 : sizeof(word));
+            at[k] = taken(bytes[k]);
         }
-        answer[1] = touched(table, c[9]) || touched(input, c[10]) || touched(first, c[11]) || touched(second, c[12]);
+        answer[0] = called(c, at, length);
+        for (int k = 0; k < BUFFERS; k++) answer[1] |= touched(at[k], bytes[k]);
         give(answer, sizeof answer);
-        give(first, c[11] * sizeof(word));
-        give(second, c[12] * sizeof(word));
-        free(bytes);
-        free(table - GUARD);
-        free(input - GUARD);
-        free(first - GUARD);
-        free(second - GUARD);
+        give(at[OUT], bytes[OUT]);
+        give(at[FIRST], bytes[FIRST]);
+        give(at[SECOND], bytes[SECOND]);
+        for (int k = 0; k < BUFFERS; k++) free((byte *)at[k] - GUARD);
     }
 }

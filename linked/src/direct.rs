@@ -12,6 +12,17 @@ extern "C" {
         part: usize,
     ) -> usize;
 
+    fn yardstick_write(
+        registers: usize,
+        nodes: usize,
+        entry: usize,
+        table: *const u32,
+        table_words: usize,
+        out: *mut u8,
+        out_bytes: usize,
+        part: usize,
+    ) -> usize;
+
     fn yardstick_check_runnable(
         registers: usize,
         nodes: usize,
@@ -84,6 +95,22 @@ pub fn read(bytes: &[u8], table: &mut [u32], part: usize) -> usize {
             bytes.len(),
             table.as_mut_ptr(),
             table.len(),
+            part,
+        )
+    }
+}
+
+/// Writes the file of a graph over the first bytes of a buffer.
+pub fn write(header: &Header, table: &[u32], out: &mut [u8], part: usize) -> usize {
+    unsafe {
+        yardstick_write(
+            header.registers,
+            header.nodes,
+            header.entry,
+            table.as_ptr(),
+            table.len(),
+            out.as_mut_ptr(),
+            out.len(),
             part,
         )
     }

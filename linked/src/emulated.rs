@@ -32,6 +32,7 @@ struct Request<'a> {
     table: &'a [u32],
     input: &'a [u32],
     lent: [&'a mut [u32]; 2],
+    lent_bytes: &'a mut [u8],
 }
 
 impl<'a> Request<'a> {
@@ -46,6 +47,7 @@ impl<'a> Request<'a> {
             table,
             input: &[],
             lent: [&mut [], &mut []],
+            lent_bytes: &mut [],
         }
     }
 
@@ -66,13 +68,15 @@ impl<'a> Request<'a> {
             place,
             self.part,
         ];
+        let bytes = [self.bytes, &*self.lent_bytes];
         let words = [self.table, self.input, &*self.lent[0], &*self.lent[1]];
         out.extend(self.entry.to_ne_bytes());
-        let lengths = words.iter().map(|words| words.len());
-        for number in numbers.into_iter().chain([self.bytes.len()]).chain(lengths) {
+        let lengths = bytes.map(<[u8]>::len).into_iter();
+        let lengths = lengths.chain(words.map(<[u32]>::len));
+        for number in numbers.into_iter().chain(lengths) {
             out.extend((number as u64).to_ne_bytes());
         }
-        out.extend(self.bytes);
+        out.extend(bytes.concat());
         for word in words.into_iter().flatten() {
             out.extend(word.to_ne_bytes());
         }
@@ -88,6 +92,8 @@ impl<'a> Request<'a> {
             let pipe = host.stdout.as_mut().expect("a pipe from the host");
             let mut number = [0; 16];
             pipe.read_exact(&mut number).expect("a host that answers");
+            pipe.read_exact(self.lent_bytes)
+                .expect("a host that answers");
             for lent in &mut self.lent {
                 let mut words = vec![0; 4 * lent.len()];
                 pipe.read_exact(&mut words).expect("a host that answers");
@@ -97,7 +103,7 @@ impl<'a> Request<'a> {
             }
             let [answer, beside] = [&number[..8], &number[8..]]
                 .map(|bytes| u64::from_ne_bytes(bytes.try_into().expect("eight bytes")));
-            assert_eq!(beside, 0, "a word beside a lent buffer changed");
+            assert_eq!(beside, 0, "something beside a lent buffer changed");
             answer as usize
         })
     }
@@ -113,6 +119,13 @@ pub fn read(bytes: &[u8], table: &mut [u32], part: usize) -> usize {
     let mut request = Request::new(0, &none, &[], part);
     request.bytes = bytes;
     request.lent[0] = table;
+    request.ask()
+}
+
+/// Writes the file of a graph over the first bytes of a buffer.
+pub fn write(header: &Header, table: &[u32], out: &mut [u8], part: usize) -> usize {
+    let mut request = Request::new(6, header, table, part);
+    request.lent_bytes = out;
     request.ask()
 }
 

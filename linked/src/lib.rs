@@ -9,9 +9,9 @@ mod direct;
 mod emulated;
 
 #[cfg(target_arch = "x86_64")]
-pub use direct::{campaign, check_runnable, check_source, harden, read, run};
+pub use direct::{campaign, check_runnable, check_source, harden, read, run, write};
 #[cfg(not(target_arch = "x86_64"))]
-pub use emulated::{campaign, check_runnable, check_source, harden, read, run};
+pub use emulated::{campaign, check_runnable, check_source, harden, read, run, write};
 
 /// What stands beside a table: R, N and the entry node. Any number may be given.
 #[derive(Clone, Copy, Debug, PartialEq, Eq)]
@@ -24,6 +24,8 @@ pub struct Header {
 /// How many numbers a check's answer has: the refusal's number and place, or 0 and 0. The other
 /// answers begin with the same two.
 pub const CHECK_NUMBERS: usize = 2;
+/// Then how many bytes a file has.
+pub const SIZE_NUMBERS: usize = 3;
 /// Then R, N and entry.
 pub const GRAPH_NUMBERS: usize = 5;
 /// Then the outcome from 1 (Returned, Caught, Spent, Full), the value, node, steps, branches, reads

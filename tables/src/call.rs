@@ -1,11 +1,12 @@
 //! A call of one entry point: all that is given to it, and the buffers that are lent.
 
-use linked::{Header, CHECK_NUMBERS, GRAPH_NUMBERS, RUN_NUMBERS, SCORE_NUMBERS};
+use linked::{Header, CHECK_NUMBERS, GRAPH_NUMBERS, RUN_NUMBERS, SCORE_NUMBERS, SIZE_NUMBERS};
 use std::fmt;
 
 #[derive(Clone, Copy, Debug, PartialEq, Eq, PartialOrd, Ord)]
 pub enum Entry {
     Read,
+    Write,
     CheckRunnable,
     CheckSource,
     Harden,
@@ -13,8 +14,9 @@ pub enum Entry {
     Campaign,
 }
 
-pub const ENTRIES: [Entry; 6] = [
+pub const ENTRIES: [Entry; 7] = [
     Entry::Read,
+    Entry::Write,
     Entry::CheckRunnable,
     Entry::CheckSource,
     Entry::Harden,
@@ -29,6 +31,13 @@ pub struct Held {
     pub table: Vec<u32>,
 }
 
+/// Lent buffers: words, in the order of the arguments, and bytes, which only writing takes.
+#[derive(Clone, Default, PartialEq, Eq)]
+pub struct Buffers {
+    pub words: Vec<Vec<u32>>,
+    pub bytes: Vec<u8>,
+}
+
 /// An entry point takes the bytes or the table, and a run and a campaign all that follows; it does
 /// not see the rest.
 #[derive(Clone)]
@@ -39,15 +48,30 @@ pub struct Call<'a> {
     pub input: &'a [u32],
     pub budget: usize,
     pub fault: Option<usize>,
-    /// What the lent buffers hold before the call, in the order of the arguments.
-    pub lent: Vec<Vec<u32>>,
+    /// What the lent buffers hold before the call.
+    pub lent: Buffers,
 }
 
 /// What came of a call: every number of the answer, and what the lent buffers hold after it.
 #[derive(Clone, PartialEq, Eq)]
 pub struct Answered {
     pub numbers: Vec<usize>,
-    pub lent: Vec<Vec<u32>>,
+    pub lent: Buffers,
+}
+
+impl<'a> Call<'a> {
+    /// A call with nothing lent, no input and no budget.
+    pub fn new(entry: Entry, bytes: &'a [u8], held: &'a Held) -> Self {
+        Call {
+            entry,
+            bytes,
+            held,
+            input: &[],
+            budget: 0,
+            fault: None,
+            lent: Buffers::default(),
+        }
+    }
 }
 
 impl Answered {
@@ -65,6 +89,7 @@ impl Entry {
     pub fn name(self) -> &'static str {
         match self {
             Entry::Read => "read",
+            Entry::Write => "write",
             Entry::CheckRunnable => "check_runnable",
             Entry::CheckSource => "check_source",
             Entry::Harden => "harden",
@@ -77,6 +102,7 @@ impl Entry {
     pub fn numbers(self) -> usize {
         match self {
             Entry::CheckRunnable | Entry::CheckSource => CHECK_NUMBERS,
+            Entry::Write => SIZE_NUMBERS,
             Entry::Read | Entry::Harden => GRAPH_NUMBERS,
             Entry::Run => RUN_NUMBERS,
             Entry::Campaign => SCORE_NUMBERS,
@@ -105,20 +131,26 @@ impl fmt::Display for Call<'_> {
             let (input, budget, fault) = (words(self.input), self.budget, self.fault);
             write!(f, "\n  input {input}\n  budget {budget}, fault {fault:?}")?;
         }
-        show_lent(&self.lent, f)
+        write!(f, "{}", self.lent)
     }
 }
 
 impl fmt::Display for Answered {
     fn fmt(&self, f: &mut fmt::Formatter) -> fmt::Result {
-        write!(f, "{:?}", self.numbers)?;
-        show_lent(&self.lent, f)
+        write!(f, "{:?}{}", self.numbers, self.lent)
     }
 }
 
-fn show_lent(lent: &[Vec<u32>], f: &mut fmt::Formatter) -> fmt::Result {
-    lent.iter()
-        .try_for_each(|lent| write!(f, "\n  lent {}", words(lent)))
+impl fmt::Display for Buffers {
+    fn fmt(&self, f: &mut fmt::Formatter) -> fmt::Result {
+        for lent in &self.words {
+            write!(f, "\n  lent {}", words(lent))?;
+        }
+        if self.bytes.is_empty() {
+            return Ok(());
+        }
+        write!(f, "\n  lent bytes {}", words(&self.bytes))
+    }
 }
 
 /// Longer lists are shown by their beginning; the case makes them whole again.

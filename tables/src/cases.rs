@@ -8,7 +8,7 @@ use linked::Header;
 use second::dice::Dice;
 use second::graph::{BRANCH_WORD, CATCH, NODE_WORDS, OUT};
 use second::run::{run, Outcome, LAST_BUDGET};
-use second::shapes::{any_shape, structured, Draft};
+use second::shapes::{any_shape, longest, structured, Draft};
 
 /// What the calls of a case read.
 #[derive(Clone, PartialEq, Eq)]
@@ -19,6 +19,7 @@ pub struct Material {
     input: Vec<u32>,
     plain: Held,
     hardened: Option<Held>,
+    longest: Option<Held>,
     swept: Vec<Held>,
 }
 
@@ -33,6 +34,7 @@ pub fn material(dice: &mut Dice) -> Material {
     };
     let plain = damage::held(dice, &draft);
     let hardened = hardened(dice, &plain);
+    let longest = (dice.below(40) == 0).then(|| damage::sound(&longest(dice)));
     let sweeps = dice.below(40) == 0;
     Material {
         file,
@@ -40,6 +42,7 @@ pub fn material(dice: &mut Dice) -> Material {
         input: input(dice),
         plain,
         hardened,
+        longest,
         swept: if sweeps {
             damage::swept(dice)
         } else {
@@ -81,6 +84,13 @@ fn words_needed(plain: &Held) -> Option<usize> {
     let graph = sides::graph(&plain.header);
     let refusal = second::harden::harden(&graph, &plain.table, &mut []).err()?;
     (refusal.number == 11).then_some(refusal.place as usize)
+}
+
+/// How long the file of a graph is: with no room at all, 15 says so.
+fn bytes_needed(held: &Held) -> Option<usize> {
+    let graph = sides::graph(&held.header);
+    let refusal = second::file::write(&graph, &held.table, &mut []).err()?;
+    (refusal.number == 15).then_some(refusal.place as usize)
 }
 
 fn input(dice: &mut Dice) -> Vec<u32> {
@@ -133,8 +143,12 @@ pub fn calls<'a>(dice: &'a mut Dice, material: &'a Material) -> Vec<Call<'a>> {
     if let Some(hardened) = &material.hardened {
         writer.all_of(hardened);
     }
+    if let Some(longest) = &material.longest {
+        writer.writes(longest);
+    }
     for held in &material.swept {
         writer.check(held);
+        writer.write_somewhere(held);
         if writer.dice.below(12) == 0 {
             writer.harden(held);
             writer.runs(held);
@@ -146,27 +160,45 @@ pub fn calls<'a>(dice: &'a mut Dice, material: &'a Material) -> Vec<Call<'a>> {
 impl<'a> Writer<'a> {
     /// A call with nothing lent, and no budget.
     fn call(&self, entry: Entry, held: &'a Held) -> Call<'a> {
-        Call {
-            entry,
-            bytes: &self.material.file,
-            held,
-            input: &self.material.input,
-            budget: 0,
-            fault: None,
-            lent: Vec::new(),
-        }
+        let mut call = Call::new(entry, &self.material.file, held);
+        call.input = &self.material.input;
+        call
     }
 
     /// Takes up a call that lends buffers of these lengths.
     fn add(&mut self, mut call: Call<'a>, lengths: &[usize]) {
         let lent = lengths.iter().map(|&length| junk(self.dice, length));
-        call.lent = lent.collect();
+        call.lent.words = lent.collect();
+        self.calls.push(call);
+    }
+
+    /// Takes up a call that lends so many bytes, none of them 0.
+    fn write(&mut self, held: &'a Held, length: usize) {
+        let mut call = self.call(Entry::Write, held);
+        let lent = (0..length).map(|_| self.dice.between(1, 255) as u8);
+        call.lent.bytes = lent.collect();
         self.calls.push(call);
     }
 
     fn read(&mut self) {
         let length = self.length(self.material.nodes * NODE_WORDS);
         self.add(self.call(Entry::Read, &self.material.plain), &[length]);
+    }
+
+    /// Writes into no bytes at all, one too few, just enough, one more, and many more.
+    fn writes(&mut self, held: &'a Held) {
+        let Some(needed) = bytes_needed(held) else {
+            return self.write_somewhere(held);
+        };
+        let more = needed + self.dice.between(2, 200) as usize;
+        for length in [0, needed - 1, needed, needed + 1, more] {
+            self.write(held, length);
+        }
+    }
+
+    fn write_somewhere(&mut self, held: &'a Held) {
+        let length = self.length(bytes_needed(held).unwrap_or(24));
+        self.write(held, length);
     }
 
     /// A buffer's length around what is needed.
@@ -183,6 +215,7 @@ impl<'a> Writer<'a> {
 
     fn all_of(&mut self, held: &'a Held) {
         self.check(held);
+        self.writes(held);
         self.harden(held);
         self.runs(held);
     }

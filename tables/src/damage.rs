@@ -29,7 +29,7 @@ pub fn held(dice: &mut Dice, draft: &Draft) -> Held {
     held
 }
 
-fn sound(draft: &Draft) -> Held {
+pub fn sound(draft: &Draft) -> Held {
     Held {
         header: Header {
             registers: draft.registers as usize,

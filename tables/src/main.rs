@@ -1,7 +1,9 @@
 //! Compares the proved entry points over files and tables, linked as a static library, with the
 //! second program's: on generated tables, headers and buffer lengths, every number of the answer and
-//! every word of every lent buffer. Exit status 1: something differed, or did not occur.
+//! every word or byte of every lent buffer. What was written is read again, and what was read is
+//! written again. Exit status 1: something differed, or did not occur.
 
+mod back;
 mod call;
 mod cases;
 mod damage;
@@ -98,11 +100,13 @@ impl Tally {
             let expected = sides::second(call);
             seen(call, &expected);
             self.mix.add(call, &expected);
-            match differs(call, &expected) {
-                None => self.passed += 1,
-                Some(message) => self.fail(format!(
-                    "DIFFERENCE seed {seed} index {index} call {number}: {message}\n  {call}\n  {again}"
-                )),
+            for tried in tried(call, &expected) {
+                match tried {
+                    Ok(()) => self.passed += 1,
+                    Err(message) => self.fail(format!(
+                        "DIFFERENCE seed {seed} index {index} call {number}: {message}\n  {call}\n  {again}"
+                    )),
+                }
             }
         }
         if material != before {
@@ -121,34 +125,45 @@ impl Tally {
     }
 }
 
-/// What the proved side answers that the second does not.
-fn differs(call: &Call, expected: &Answered) -> Option<String> {
-    let answered = match sides::proved(call) {
-        Ok(answered) => answered,
-        Err(message) => return Some(message),
+/// Whether the proved side answers as the second does, and then whether what it read or wrote
+/// comes back.
+fn tried(call: &Call, expected: &Answered) -> Vec<Result<(), String>> {
+    let answers = answers(call, expected);
+    let back = match answers {
+        Ok(()) => back::comes_back(call, expected),
+        Err(_) => None,
     };
+    std::iter::once(answers).chain(back).collect()
+}
+
+fn answers(call: &Call, expected: &Answered) -> Result<(), String> {
+    let answered = sides::proved(call)?;
     if answered == *expected {
-        return None;
+        return Ok(());
     }
     let first = first_difference(&answered, expected);
-    Some(format!("{first}\n  proved {answered}\n  second {expected}"))
+    Err(format!("{first}\n  proved {answered}\n  second {expected}"))
 }
 
 fn first_difference(one: &Answered, other: &Answered) -> String {
-    let number = one
-        .numbers
-        .iter()
-        .zip(&other.numbers)
-        .position(|(a, b)| a != b);
-    if let Some(number) = number {
-        let (a, b) = (one.numbers[number], other.numbers[number]);
-        return format!("number {number} of the answer: proved {a}, second {b}");
+    if let Some(different) = different(&one.numbers, &other.numbers) {
+        return format!("answer, number {different}");
     }
-    for (buffer, (a, b)) in one.lent.iter().zip(&other.lent).enumerate() {
-        if let Some(word) = a.iter().zip(b).position(|(a, b)| a != b) {
-            let (a, b) = (a[word], b[word]);
-            return format!("lent buffer {buffer}, word {word}: proved {a}, second {b}");
+    let words = one.lent.words.iter().zip(&other.lent.words);
+    for (buffer, (a, b)) in words.enumerate() {
+        if let Some(different) = different(a, b) {
+            return format!("lent buffer {buffer}, word {different}");
         }
     }
-    "something of another length".to_string()
+    match different(&one.lent.bytes, &other.lent.bytes) {
+        Some(different) => format!("lent bytes, byte {different}"),
+        None => "something of another length".to_string(),
+    }
+}
+
+/// The first place at which two lists differ, and what stands there.
+fn different<T: PartialEq + std::fmt::Display>(one: &[T], other: &[T]) -> Option<String> {
+    let place = one.iter().zip(other).position(|(a, b)| a != b)?;
+    let (a, b) = (&one[place], &other[place]);
+    Some(format!("{place}: proved {a}, second {b}"))
 }

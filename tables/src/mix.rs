@@ -2,6 +2,7 @@
 
 use crate::call::{Answered, Call, Entry, Held, ENTRIES};
 use crate::sides;
+use second::file::LONGEST;
 use second::graph::NODE_WORDS;
 use std::collections::BTreeMap;
 
@@ -31,10 +32,21 @@ const ROOM_EDGES: [&str; 4] = [
     "one word short",
 ];
 
+/// What a file that is written has to meet, besides what its table has to.
+const FILE_EDGES: [&str; 5] = [
+    "no byte lent",
+    "one byte short",
+    "no byte to spare",
+    "bytes behind",
+    "the longest file",
+];
+
 /// What each entry point has to answer at least once: the numbers of its refusals, and words that
 /// `answers` and `edges` give.
-const FLOORS: [(Entry, &[usize], &[&str]); 6] = [
+const FLOORS: [(Entry, &[usize], &[&str]); 8] = [
     (Entry::Read, &[1, 2, 3, 4, 5, 6, 7, 10], &ROOM_EDGES),
+    (Entry::Write, &[3, 4, 5, 6, 7, 8], &TABLE_EDGES),
+    (Entry::Write, &[15], &FILE_EDGES),
     (Entry::CheckRunnable, &[3, 4, 5, 6, 7, 8], &TABLE_EDGES),
     (Entry::CheckSource, &[3, 4, 5, 6, 7, 8, 9], &TABLE_EDGES),
     (Entry::Harden, &[3, 4, 5, 6, 7, 8, 9, 11], &ROOM_EDGES),
@@ -137,16 +149,36 @@ fn edges(call: &Call, answered: &Answered) -> Vec<What> {
     let edge = match call.entry {
         Entry::Read => room(call, answered, 4),
         Entry::Harden => room(call, answered, 11),
-        Entry::CheckRunnable | Entry::CheckSource => table(answered, call.held),
+        Entry::Write | Entry::CheckRunnable | Entry::CheckSource => table(answered, call.held),
         Entry::Run => run(call, answered),
         Entry::Campaign => campaign(call, answered),
     };
-    edge.map(said).into_iter().collect()
+    edge.into_iter()
+        .chain(file(call, answered))
+        .map(said)
+        .collect()
+}
+
+/// Lent bytes against those that the file takes.
+fn file(call: &Call, answered: &Answered) -> Vec<&'static str> {
+    if call.entry != Entry::Write {
+        return Vec::new();
+    }
+    let (bytes, size) = (call.lent.bytes.len(), answered.numbers[2]);
+    let edge = match answered.refusal() {
+        0 if bytes == size => Some("no byte to spare"),
+        0 => Some("bytes behind"),
+        15 if bytes == 0 => Some("no byte lent"),
+        15 if bytes + 1 == answered.place() => Some("one byte short"),
+        _ => None,
+    };
+    let longest = (size == LONGEST).then_some("the longest file");
+    edge.into_iter().chain(longest).collect()
 }
 
 /// A lent table against the words that its graph takes.
 fn room(call: &Call, answered: &Answered, short: usize) -> Option<&'static str> {
-    let words = call.lent[0].len();
+    let words = call.lent.words[0].len();
     let needed = answered.numbers[3] * NODE_WORDS;
     match answered.refusal() {
         0 if words == needed => Some("no word to spare"),
@@ -180,7 +212,7 @@ fn run(call: &Call, answered: &Answered) -> Option<&'static str> {
 }
 
 fn campaign(call: &Call, answered: &Answered) -> Option<&'static str> {
-    let (first, second) = (call.lent[0].len(), call.lent[1].len());
+    let (first, second) = (call.lent.words[0].len(), call.lent.words[1].len());
     match answered.refusal() {
         13 if made_events(call) => Some("13 after events"),
         14 if first.abs_diff(second) == 1 => Some("14, one word apart"),
@@ -192,6 +224,6 @@ fn campaign(call: &Call, answered: &Answered) -> Option<&'static str> {
 fn made_events(call: &Call) -> bool {
     let mut call = call.clone();
     call.entry = Entry::Run;
-    call.lent.truncate(1);
+    call.lent.words.truncate(1);
     sides::second(&call).numbers[8] > 0
 }

@@ -1,6 +1,6 @@
 //! Both sides of a call: the proved entry point and the second program's.
 
-use crate::call::{Answered, Call, Entry, Held};
+use crate::call::{Answered, Buffers, Call, Entry, Held};
 use crate::lent::Lent;
 use linked::Header;
 use second::campaign::Score;
@@ -11,36 +11,42 @@ use second::run::{Answer, Outcome};
 /// The proved side. Each number is a call of its own, on buffers that hold the same before; what
 /// they hold after it has to be the same too, and nothing around them may have changed.
 pub fn proved(call: &Call) -> Result<Answered, String> {
-    let mut buffers: Vec<Lent> = call.lent.iter().map(|content| Lent::new(content)).collect();
+    let Buffers { words, bytes } = &call.lent;
+    let mut words: Vec<Lent<u32>> = words.iter().map(|content| Lent::new(content)).collect();
+    let mut bytes: Lent<u8> = Lent::new(bytes);
     let mut answered = Answered {
         numbers: Vec::new(),
-        lent: Vec::new(),
+        lent: Buffers::default(),
     };
     for part in 0..call.entry.numbers() {
-        let lent = buffers.iter_mut().map(Lent::anew).collect();
-        answered.numbers.push(proved_part(call, lent, part));
-        if !buffers.iter().all(Lent::kept) {
+        let lent = words.iter_mut().map(Lent::anew).collect();
+        let number = proved_part(call, lent, bytes.anew(), part);
+        answered.numbers.push(number);
+        if !(words.iter().all(Lent::kept) && bytes.kept()) {
             return Err(format!(
-                "number {part}: a word beside a lent buffer changed"
+                "number {part}: something beside a lent buffer changed"
             ));
         }
-        if part == 0 {
-            answered.lent = buffers.iter().map(|lent| lent.content().to_vec()).collect();
-        }
-        if !buffers.iter().map(Lent::content).eq(answered.lent.iter()) {
+        let lent = Buffers {
+            words: words.iter().map(Lent::content).collect(),
+            bytes: bytes.content(),
+        };
+        if part > 0 && lent != answered.lent {
             return Err(format!(
                 "number {part}: the lent buffers hold something else"
             ));
         }
+        answered.lent = lent;
     }
     Ok(answered)
 }
 
-fn proved_part(call: &Call, mut lent: Vec<&mut [u32]>, part: usize) -> usize {
+fn proved_part(call: &Call, mut words: Vec<&mut [u32]>, bytes: &mut [u8], part: usize) -> usize {
     let Held { header, table } = call.held;
     let (input, budget, fault) = (call.input, call.budget, call.fault);
-    match (call.entry, &mut lent[..]) {
+    match (call.entry, &mut words[..]) {
         (Entry::Read, [table]) => linked::read(call.bytes, table, part),
+        (Entry::Write, []) => linked::write(header, table, bytes, part),
         (Entry::CheckRunnable, []) => linked::check_runnable(header, table, part),
         (Entry::CheckSource, []) => linked::check_source(header, table, part),
         (Entry::Harden, [output]) => linked::harden(header, table, output, part),
@@ -57,8 +63,9 @@ pub fn second(call: &Call) -> Answered {
     let mut lent = call.lent.clone();
     let (graph, table) = (&graph(&call.held.header), &call.held.table);
     let (input, budget, fault) = (call.input, word(call.budget), call.fault.map(word));
-    let mut numbers = match (call.entry, &mut lent[..]) {
+    let mut numbers = match (call.entry, &mut lent.words[..]) {
         (Entry::Read, [table]) => graph_numbers(second::file::read(call.bytes, table)),
+        (Entry::Write, []) => size_numbers(second::file::write(graph, table, &mut lent.bytes)),
         (Entry::CheckRunnable, []) => check_numbers(second::table::check_runnable(graph, table)),
         (Entry::CheckSource, []) => check_numbers(second::table::check_source(graph, table)),
         (Entry::Harden, [output]) => graph_numbers(second::harden::harden(graph, table, output)),
@@ -99,6 +106,10 @@ fn numbers<T>(answer: Result<T, Refusal>, rest: impl Fn(T) -> Vec<u32>) -> Vec<u
 
 fn check_numbers(answer: Result<(), Refusal>) -> Vec<usize> {
     numbers(answer, |()| Vec::new())
+}
+
+fn size_numbers(answer: Result<usize, Refusal>) -> Vec<usize> {
+    numbers(answer, |size| vec![size as u32])
 }
 
 fn graph_numbers(answer: Result<Graph, Refusal>) -> Vec<usize> {

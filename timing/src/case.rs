@@ -46,6 +46,13 @@ fn input(rounds: u32) -> Vec<u32> {
     std::iter::once(rounds).chain(further).collect()
 }
 
+/// The hardened graph of a source.
+pub fn hardened((graph, table): &Held) -> Held {
+    let mut out = vec![0; TABLE_WORDS];
+    let graph = second::harden::harden(graph, table, &mut out).expect("a source to harden");
+    (graph, out)
+}
+
 /// Branches only: each goes one node on, the last one back to the entry, or to the entry.
 pub fn branches(nodes: u32, downward: bool) -> Held {
     chain(nodes, downward, |node, next, entry| {

@@ -1,6 +1,6 @@
-//! Times the proved run, campaign and hardening beside the same in plain Rust, in one process, on
-//! the same input, after comparing the answers. Prints ratios, and for hardening a share of a
-//! millisecond.
+//! Times the proved run, campaign, hardening and writing beside the same in plain Rust or beside each
+//! other, in one process, on the same input, after comparing the answers. Prints ratios, and for
+//! hardening a share of a millisecond.
 //!
 //! `timing FILE` measures this build. The first of two builds finds no FILE and leaves its numbers
 //! there; the second takes them up, prints both, and judges by the better, since where the linker
@@ -14,9 +14,10 @@ mod same;
 #[cfg(feature = "shifted")]
 mod shifted;
 
-use case::{block, branches, Case, ROOM};
+use case::{block, branches, hardened, Case, ROOM};
 use race::{Entry, Race};
-use same::{rust_run, Buffers};
+use same::{rust_run, rust_write, Buffers};
+use second::file::LONGEST;
 use second::programs::{Held, TABLE_WORDS};
 use std::hint::black_box;
 use std::process::ExitCode;
@@ -40,19 +41,10 @@ fn main() -> ExitCode {
         Source::new("branches, downward", |nodes| branches(nodes, true)),
         Source::new("one block, downward", |nodes| block(nodes, true)),
     ];
+    let [upward, downward, _] = &sources;
+    let files = [Files::new(upward, None), Files::new(downward, Some(1.0))];
     let mut race = Race::default();
-    let mut lines = Vec::new();
-    for pair in &runs {
-        lines.extend(pair.run(&mut race));
-    }
-    for pair in &runs {
-        if pair.hardened {
-            lines.extend(pair.campaign(&mut race));
-        }
-    }
-    for source in &sources {
-        lines.extend(source.harden(&mut race));
-    }
+    let mut lines = enter(&mut race, &runs, &sources, &files);
     race.run(TIME);
     let mut numbers: Vec<f64> = lines.iter().map(|line| line.measured(&race)).collect();
     lines.push(Line::rerun());
@@ -65,6 +57,29 @@ fn main() -> ExitCode {
         Err(_) => leave(&path, &numbers),
         Ok(text) => judge(&lines, &first_numbers(&text, numbers.len()), &numbers),
     }
+}
+
+/// Enters all that is raced, in the order of the lines.
+fn enter<'a>(
+    race: &mut Race<'a>,
+    runs: &'a [Pair],
+    sources: &'a [Source],
+    files: &'a [Files],
+) -> Vec<Line> {
+    let mut lines = Vec::new();
+    for pair in runs {
+        lines.extend(pair.run(race));
+    }
+    for pair in runs.iter().filter(|pair| pair.hardened) {
+        lines.extend(pair.campaign(race));
+    }
+    for source in sources {
+        lines.extend(source.harden(race));
+    }
+    for files in files {
+        lines.extend(files.write(race));
+    }
+    lines
 }
 
 /// The first build's numbers, one to a line, for the second.
@@ -83,15 +98,25 @@ fn leave(path: &str, numbers: &[f64]) -> ExitCode {
 
 fn first_numbers(text: &str, count: usize) -> Vec<f64> {
     let numbers: Vec<f64> = text.lines().filter_map(|line| line.parse().ok()).collect();
-    assert_eq!(numbers.len(), count, "the first build's numbers are not whole");
+    assert_eq!(
+        numbers.len(),
+        count,
+        "the first build's numbers are not whole"
+    );
     numbers
 }
 
 /// Prints both builds' numbers and whether the better one is what is to be reached.
 fn judge(lines: &[Line], first: &[f64], second: &[f64]) -> ExitCode {
-    println!("{:<80} {:>8} {:>8}", "least times of each build", "first", "second");
+    println!(
+        "{:<80} {:>8} {:>8}",
+        "least times of each build", "first", "second"
+    );
     let builds = first.iter().zip(second);
-    let missed = lines.iter().zip(builds).filter(|(line, (one, other))| !line.print(**one, **other));
+    let missed = lines
+        .iter()
+        .zip(builds)
+        .filter(|(line, (one, other))| !line.print(**one, **other));
     ExitCode::from(u8::from(missed.count() > 0))
 }
 
@@ -104,6 +129,8 @@ struct Line {
 
 enum Measure {
     Ratio(Entry, Entry),
+    /// Of the times for one byte each.
+    ByteRatio((Entry, usize), (Entry, usize)),
     Milliseconds(Entry),
     Apart,
 }
@@ -134,6 +161,9 @@ impl Line {
     fn measured(&self, race: &Race) -> f64 {
         match self.measure {
             Measure::Ratio(one, other) => ratio(race.time(one), race.time(other)),
+            Measure::ByteRatio((one, bytes), (other, others)) => {
+                ratio(race.time(one), race.time(other)) * others as f64 / bytes as f64
+            }
             Measure::Milliseconds(one) => ratio(race.time(one), Duration::from_millis(1)),
             Measure::Apart => unreachable!("timed apart"),
         }
@@ -269,6 +299,56 @@ impl Source {
         };
         [milliseconds, growth(&what, (128, 256), halved, whole)]
     }
+}
+
+/// The hardened graphs of a source, to be written, and how long that may take beside hardening.
+struct Files<'a> {
+    source: &'a Source,
+    half: Held,
+    whole: Held,
+    most: Option<f64>,
+}
+
+impl<'s> Files<'s> {
+    fn new(source: &'s Source, most: Option<f64>) -> Self {
+        Files {
+            source,
+            half: hardened(&source.half),
+            whole: hardened(&source.whole),
+            most,
+        }
+    }
+
+    fn write<'a>(&'a self, race: &mut Race<'a>) -> [Line; 3] {
+        let (half, bytes) = (same::write(&self.half), same::write(&self.whole));
+        let hardened = race.enter(hardening(&self.source.whole));
+        let proved = race.enter(writing(&self.whole));
+        let halved = race.enter(writing(&self.half));
+        let mut out = vec![0; LONGEST];
+        let rust = race.enter(move || hold(rust_write(black_box(&self.whole), &mut out)));
+        let (nodes, name) = (self.whole.0.nodes, self.source.name);
+        let what = format!("writing {nodes} nodes, {name}");
+        let linear = Line {
+            what: format!("{what}: time for a byte / with half the nodes"),
+            measure: Measure::ByteRatio((proved, bytes), (halved, half)),
+            bar: Some(Bar::AtMost(1.3)),
+        };
+        [
+            Line::ratio(
+                format!("{what}, {bytes} bytes: writing / hardening"),
+                proved,
+                hardened,
+                self.most,
+            ),
+            linear,
+            Line::ratio(format!("{what}: proved / Rust"), proved, rust, None),
+        ]
+    }
+}
+
+fn writing(graph: &Held) -> impl FnMut() + '_ {
+    let mut out = vec![0; LONGEST];
+    move || hold(proved::write(black_box(&graph.0), &graph.1, &mut out))
 }
 
 fn hardening(source: &Held) -> impl FnMut() + '_ {

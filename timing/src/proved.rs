@@ -81,3 +81,8 @@ pub fn score(case: &Case, first: &mut [u32], second: &mut [u32]) -> Score {
 pub fn harden(graph: &Graph, table: &[u32], out: &mut [u32]) -> usize {
     linked::harden(&header(graph), table, out, 3)
 }
+
+/// Writing: how many bytes the file has, or 0 on a refusal.
+pub fn write(graph: &Graph, table: &[u32], out: &mut [u8]) -> usize {
+    linked::write(&header(graph), table, out, 2)
+}

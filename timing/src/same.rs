@@ -1,9 +1,10 @@
 //! Both sides give the same answers and leave the same buffers; nothing is timed before that.
 
-use crate::case::{Case, ROOM};
+use crate::case::{hardened, Case, ROOM};
 use crate::proved;
 use second::campaign::Score;
 use second::fast::{campaign_forked, campaign_rerun, run_fast};
+use second::file::LONGEST;
 use second::programs::{Held, TABLE_WORDS};
 use second::run::Answer;
 
@@ -69,11 +70,24 @@ pub fn campaign(case: &Case) -> Score {
 }
 
 /// The nodes of a hardened source.
-pub fn harden((graph, table): &Held) -> usize {
-    let (mut ours, mut theirs) = (vec![0; TABLE_WORDS], vec![0; TABLE_WORDS]);
-    let hardened = second::harden::harden(graph, table, &mut theirs).expect("a source to harden");
-    let nodes = proved::harden(graph, table, &mut ours);
+pub fn harden(source: &Held) -> usize {
+    let mut ours = vec![0; TABLE_WORDS];
+    let (hardened, theirs) = hardened(source);
+    let nodes = proved::harden(&source.0, &source.1, &mut ours);
     assert_eq!(nodes, hardened.nodes as usize);
     assert_eq!(ours, theirs);
     nodes
+}
+
+pub fn rust_write((graph, table): &Held, out: &mut [u8]) -> usize {
+    second::file::write(graph, table, out).expect("a timed graph is accepted")
+}
+
+/// The bytes of a graph's file.
+pub fn write(held: &Held) -> usize {
+    let (mut ours, mut theirs) = (vec![0; LONGEST], vec![0; LONGEST]);
+    let bytes = rust_write(held, &mut theirs);
+    assert_eq!(proved::write(&held.0, &held.1, &mut ours), bytes);
+    assert_eq!(ours, theirs);
+    bytes
 }

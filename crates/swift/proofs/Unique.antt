@@ -17,7 +17,9 @@ use Rattle.graph.specs.Checks.{checkOf}
 use Rattle.graph.specs.declared.Check.{Check}
 use Rattle.graph.specs.declared.Successors.{Successors}
 use Rattle.file.specs.Reading.{readOf}
+use Rattle.file.specs.Writing.{writingOf}
 use Rattle.file.specs.declared.Verdict.{Verdict}
+use Rattle.file.specs.declared.Writing.{Writing}
 use Rattle.harden.specs.Hardened.{hardeningOf}
 use Rattle.harden.specs.declared.Hardening.{Hardening}
 use Rattle.bench.specs.Campaigns.{campaignOf}
@@ -75,6 +77,11 @@ readOf-injective =
     taken-back readOf (caseOf Verdict.Graph Verdict.Refused)
     λ r. elim r [ Verdict.Graph header ↦ refl | Verdict.Refused number place ↦ refl ]
 
+pub writingOf-injective : Injective writingOf
+writingOf-injective =
+    taken-back writingOf (caseOf Writing.Written Writing.Refused)
+    λ r. elim r [ Writing.Written size ↦ refl | Writing.Refused number place ↦ refl ]
+
 pub hardeningOf-injective : Injective hardeningOf
 hardeningOf-injective =
     taken-back hardeningOf (caseOf Hardening.Hardened Hardening.Refused)
@@ -130,6 +137,9 @@ unique-words-word κs a o u p q = both (same p q) refl
 pub unique-words-number-at : OneAnswer words.number_at.ended words.number_at.Reads.Post
 unique-words-number-at κs a o u p q = both (meant readingOf-injective p q) refl
 
+pub unique-words-put-number : OneAnswer words.put_number.ended words.put_number.Reads.Post
+unique-words-put-number κs a o u p q = both (same (p .0) (q .0)) (both (same (p .1) (q .1)) refl)
+
 -- ---- graph
 
 pub unique-graph-Limits-runnable : OneAnswer graph.Limits.runnable.ended graph.Limits.runnable.Reads.Post
@@ -157,6 +167,10 @@ unique-graph-check-source κs a o u p q = both (meant checkOf-injective p q) ref
 
 pub unique-file-read : OneAnswer file.read.ended file.read.Reads.Post
 unique-file-read κs a o u p q = both (meant readOf-injective (p .0) (q .0)) (past (both (same (p .1) (q .1)) refl))
+
+pub unique-file-write : OneAnswer file.write.ended file.write.Reads.Post
+unique-file-write κs a o u p q =
+    both (meant writingOf-injective (p .0) (q .0)) (past (past (past (past (both (same (p .1) (q .1)) refl)))))
 
 -- ---- harden
 
@@ -226,6 +240,9 @@ open-console-arguments κs =
 
 pub unique-yardstick-yardstick-read : OneAnswer yardstick.yardstick_read.ended yardstick.yardstick_read.Reads.Post
 unique-yardstick-yardstick-read κs a o u p q = both (same (p .0) (q .0)) (past (both (same (p .1) (q .1)) refl))
+
+pub unique-yardstick-yardstick-write : OneAnswer yardstick.yardstick_write.ended yardstick.yardstick_write.Reads.Post
+unique-yardstick-yardstick-write κs a o u p q = both (same (p .0) (q .0)) (past (past (past (past (both (same (p .1) (q .1)) refl)))))
 
 pub unique-yardstick-yardstick-check-runnable : OneAnswer yardstick.yardstick_check_runnable.ended yardstick.yardstick_check_runnable.Reads.Post
 unique-yardstick-yardstick-check-runnable κs a o u p q = both (same p q) refl

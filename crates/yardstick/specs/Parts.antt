@@ -20,6 +20,11 @@ abbrev pub checkNumbers : Answer Unit → List ℕ
 checkNumbers (given _) = 0 ∷ 0 ∷ []
 checkNumbers (refused number place) = number ∷ place ∷ []
 
+-- document 02, K2: how many bytes a file has
+abbrev pub sizeNumbers : Answer ℕ → List ℕ
+sizeNumbers (given size) = 0 ∷ 0 ∷ size ∷ []
+sizeNumbers (refused number place) = number ∷ place ∷ 0 ∷ []
+
 -- R, N and entry
 abbrev pub graphNumbers : Answer Header → List ℕ
 graphNumbers (given h) = 0 ∷ 0 ∷ h .registers ∷ h .nodes ∷ h .entry ∷ []

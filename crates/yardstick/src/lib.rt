@@ -5,10 +5,11 @@ ghost use mathlib.Core.Path.{_≡_};
 ghost use lib.ListN.{length, getD};
 ghost use Rattle.graph.specs.Checks.{runnableCheck, sourceCheck};
 ghost use Rattle.file.specs.Reading.{readAnswer, readTable};
+ghost use Rattle.file.specs.Writing.{writeAnswer, writeOutput};
 ghost use Rattle.harden.specs.Hardened.{hardenAnswer, hardenOutput};
 ghost use Rattle.bench.specs.Runs.{answerOf, runAnswer, runEvents};
 ghost use Rattle.bench.specs.Campaigns.{campaignAnswer, campaignFirst, campaignSecond};
-ghost use Rattle.yardstick.specs.Parts.{checkNumbers, graphNumbers, runNumbers, scoreNumbers, faultOf};
+ghost use Rattle.yardstick.specs.Parts.{checkNumbers, sizeNumbers, graphNumbers, runNumbers, scoreNumbers, faultOf};
 
 // Reading a file: a number of the answer.
 #[no_mangle]
@@ -18,6 +19,24 @@ pub extern "C" fn yardstick_read(bytes: &[u8], table: &mut [u32], part: usize) -
 {
     let answer = file::read(bytes, table);
     let numbers = parts::read_numbers(answer);
+    parts::number_of(&numbers, part)
+}
+
+// Writing a file: a number of the answer.
+#[no_mangle]
+pub extern "C" fn yardstick_write(
+    registers: usize,
+    nodes: usize,
+    entry: usize,
+    table: &[u32],
+    out: &mut [u8],
+    part: usize,
+) -> usize
+    ensures { λ r. ⌜ r ≡ getD (sizeNumbers (writeAnswer registers nodes entry (now (table .entry)) (length (now (out .entry))))) part 0 ⌝ }
+    ensures { λ _. ⌜ now (out .exit) ≡ writeOutput registers nodes entry (now (table .entry)) (now (out .entry)) ⌝ }
+{
+    let answer = file::write(registers, nodes, entry, table, out);
+    let numbers = parts::write_numbers(answer);
     parts::number_of(&numbers, part)
 }
 

@@ -10,9 +10,10 @@ ghost use mathlib.Core.Path.{_≡_};
 ghost use lib.ListN.{getD};
 ghost use Rattle.graph.specs.Checks.{checkOf};
 ghost use Rattle.file.specs.Reading.{readOf};
+ghost use Rattle.file.specs.Writing.{writingOf};
 ghost use Rattle.harden.specs.Hardened.{hardeningOf};
 ghost use Rattle.bench.specs.Campaigns.{campaignOf};
-ghost use Rattle.yardstick.specs.Parts.{checkNumbers, graphNumbers, outcomeNumbers, verdictNumbers, stateNumbers, runNumbers, scoreNumbers, faultOf};
+ghost use Rattle.yardstick.specs.Parts.{checkNumbers, sizeNumbers, graphNumbers, outcomeNumbers, verdictNumbers, stateNumbers, runNumbers, scoreNumbers, faultOf};
 
 // The number at an index, 0 past the end.
 pub fn number_of(numbers: &[usize], part: usize) -> usize
@@ -53,6 +54,16 @@ pub fn read_numbers(answer: file::Verdict) -> [usize; 5]
     match answer {
         file::Verdict::Graph(h) => [0, 0, h.registers, h.nodes, h.entry],
         file::Verdict::Refused(number, place) => [number as usize, place, 0, 0, 0],
+    }
+}
+
+// The numbers of the writer's answer.
+pub fn write_numbers(answer: file::Writing) -> [usize; 3]
+    ensures { λ r. ⌜ r ≡ sizeNumbers (writingOf answer) ⌝ }
+{
+    match answer {
+        file::Writing::Written(size) => [0, 0, size],
+        file::Writing::Refused(number, place) => [number as usize, place, 0],
     }
 }
 
