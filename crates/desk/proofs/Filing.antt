@@ -62,7 +62,7 @@ module _ (h : Header) (table text last : List ℕ) (r : Writing)
       let s : Stands (h .registers) (h .nodes) (h .entry) size table text = written (h .registers) (h .nodes) (h .entry) size table text (answer is) in
       let fits : length file ≤ length text = omega (arith, s .size-is, s .room) in
       let wrote : Wrote text 0 file last size =
-          record { place-is = rw (zero-add, le-leb (length file) (length text) fits) (s .size-is); buffer-is = g ∙ s .output ∙ sym (put-over text file fits) } in
+      record { place-is = rw (zero-add, le-leb (length file) (length text) fits) (s .size-is); buffer-is = g ∙ s .output ∙ sym (put-over text file fits) } in
       rw (answer is) (printed wrote)
 
   -- a refusal, which left the text as it stood

@@ -135,7 +135,7 @@ module _ (registers nodes entry : ℕ) (table : List ℕ) (ok : runnableCheck re
   unfolding fileOf headerOf
   end =
       let whole : length bytes ≡ length (numberOf registers ++ numberOf nodes ++ numberOf entry) + length cells =
-          length-append (numberOf registers ++ numberOf nodes ++ numberOf entry) cells in
+      length-append (numberOf registers ++ numberOf nodes ++ numberOf entry) cells in
       omega (arith, whole, length-append (numberOf registers ++ numberOf nodes) (numberOf entry), length-append (numberOf registers) (numberOf nodes))
 
   abbrev contents : Contents

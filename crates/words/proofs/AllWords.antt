@@ -14,6 +14,10 @@ word-at [] i a = omega arith
 word-at (w ∷ ws) zero (h, a) = h
 word-at (w ∷ ws) (suc i) (h, a) = word-at ws i a
 
+pub all-words : (l : List ℕ) → ((i : ℕ) → getD l i 0 < 2 ^ 32) → AllWords l
+all-words [] each = tt
+all-words (w ∷ ws) each = (each 0, all-words ws (λ i. each (suc i)))
+
 pub words-append : (xs ys : List ℕ) → AllWords xs → AllWords ys → AllWords (xs ++ ys)
 words-append [] ys a b = b
 words-append (x ∷ xs) ys (h, a) b = (h, words-append xs ys a b)
