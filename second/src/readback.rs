@@ -40,13 +40,11 @@ pub fn try_on(trial: &mut Trial) {
     }
 }
 
-/// The programs that read a case's hardened file. Each start is dear, so
-/// runs are made of every second one.
+/// The programs that read a case's hardened file.
 pub fn programs(case: &Case) -> &'static [&'static str] {
-    match case.index % 2 {
-        _ if read_hardened(&case.file).is_err() => &[],
-        0 => &["hrun", "hscore"],
-        _ => &["hscore"],
+    match read_hardened(&case.file) {
+        Ok(_) => &["hrun", "hscore"],
+        Err(_) => &[],
     }
 }
 

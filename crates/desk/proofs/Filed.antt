@@ -8,7 +8,7 @@ use native.Mathlib.Omega.{arith}
 use borrow.Author.Tests.{le-leb}
 use lib.ListN.{length, replicate, length-replicate}
 use Rattle.words.specs.Answer.{given}
-use Rattle.words.proofs.Answers.{Of, of-given, of-then, when-given}
+use Rattle.words.proofs.Answers.{Of, of-given, of-then, when-given, Any}
 use Rattle.graph.specs.Checks.{runnableCheck}
 use Rattle.file.specs.Reading.{readAnswer}
 use Rattle.file.specs.Writing.{fileOf, writeAnswer}
@@ -17,7 +17,7 @@ use Rattle.file.proofs.Writer.{file-longest}
 use Rattle.harden.specs.Hardened.{hardenAnswer}
 use Rattle.harden.proofs.Runnable.{output-runnable}
 use Rattle.desk.specs.Programs.{tableWords, Graph, readGraph, hardenGraph, graphIn, fileIn, textBytes}
-use Rattle.desk.proofs.Fits.{Any, answered, graph-worded}
+use Rattle.desk.proofs.Fits.{answered, graph-worded}
 
 abbrev Runs : Graph → Type 0
 Runs g = runnableCheck (g .header .registers) (g .header .nodes) (g .header .entry) (g .table) ≡ given tt

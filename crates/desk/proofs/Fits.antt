@@ -11,7 +11,7 @@ use borrow.Author.Tests.{leb-true}
 use lib.Dec.{leb}
 use lib.ListN.{length, take, drop, replicate, length-append, length-take}
 use Rattle.words.specs.Answer.{Answer, given, refused, andThen}
-use Rattle.words.proofs.Answers.{Of, of-given, of-refused, of-demand, of-then, of-map}
+use Rattle.words.proofs.Answers.{Of, of-given, of-refused, of-demand, of-then, of-map, Any}
 use Rattle.words.proofs.AllWords.{AllWords, words-append, words-take, words-drop, words-zeros}
 use Rattle.graph.specs.Nodes.{nodeAt}
 use Rattle.graph.specs.Checks.{runnableCheck}
@@ -124,10 +124,6 @@ listing-fits h table room all =
     (omega (arith, decimal-length (h .registers), spaced-length (h .nodes ∷ h .entry ∷ []), rows-length table (h .nodes) all))
 
 -- ---- graphs
-
--- no matter how it is refused
-abbrev pub Any : ℕ → ℕ → Type 0
-Any number place = Unit {0}
 
 pub answered : {A : Type 0} (a : Answer A) → Of (λ (x : A). Unit {0}) Any a
 answered (given a) = of-given tt

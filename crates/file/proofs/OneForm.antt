@@ -5,8 +5,9 @@ use mathlib.Core.Bool.{Bool, true, false, cond}
 use mathlib.Core.List.{List, [], _∷_, _++_, append-assoc, append-nil}
 use Prim.Native.Nat.{ℕ, _+_, _%_}
 use lib.ListN.{drop, drop-of-length-le}
-use Rattle.words.specs.Answer.{Answer, given, refused}
+use Rattle.words.specs.Answer.{given}
 use Rattle.words.specs.Number.{Reading, reading, numberAt, numberOf}
+use Rattle.words.proofs.Answers.{given-same}
 use Rattle.words.proofs.Forms.{number-form}
 use Rattle.graph.specs.declared.Role.{Role}
 use Rattle.graph.specs.declared.Role.the-variants.{Target}
@@ -16,21 +17,17 @@ use Rattle.file.specs.Writing.{cellOf, cellsOf, headerOf}
 use Rattle.file.proofs.InOrder.{InOrder, none, more}
 use Rattle.file.proofs.Accepted.{Accepted}
 
-nextIn : Answer Reading → ℕ
-nextIn (given r) = r .next
-nextIn (refused number place) = place
-
 module _ (bytes : List ℕ) where
   -- a word that was read is written so, and the bytes after it follow
   cell-form : (role : Role) (at : ℕ) {r : Reading} → cond (stands role) (numberAt bytes at) (reading 0 at) ≡ given r →
       drop at bytes ≡ cellOf role (r .value) ++ drop (r .next) bytes
-  unfolding cellOf nextIn
+  unfolding cellOf
   cell-form role at {r} e = by (stands role) e
     where
       by : (there : Bool) → cond there (numberAt bytes at) (reading 0 at) ≡ given r →
           drop at bytes ≡ cond there (numberOf (r .value)) [] ++ drop (r .next) bytes
       by true e = number-form bytes at e
-      by false e = ap (λ (k : ℕ). drop k bytes) (ap nextIn e)
+      by false e = ap (λ (x : Reading). drop (x .next) bytes) (given-same e)
 
   cells-form : {registers nodes left i kind at next : ℕ} {words : List ℕ} → InOrder bytes registers nodes left i kind at words next →
       drop at bytes ≡ cellsOf words i kind ++ drop next bytes

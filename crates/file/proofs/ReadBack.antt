@@ -27,6 +27,7 @@ use Rattle.graph.proofs.Facts.{runnable-passed}
 use Rattle.file.specs.Reading.{Contents, kindAfter, countAt, fieldAt, cellAt, before, cellsFrom, bodyOf, contentsOf}
 use Rattle.file.specs.Writing.{cellOf, cellsOf, headerOf, fileOf}
 use Rattle.file.proofs.Refusals.{cond-zero}
+use Rattle.file.proofs.Runnable.{KindOf}
 
 -- the bytes after those that stand first
 after : (bytes xs ys : List ℕ) (at : ℕ) → drop at bytes ≡ xs ++ ys → drop (at + length xs) bytes ≡ ys
@@ -70,11 +71,8 @@ module _ (registers nodes : ℕ) where
         (ap (before w) (cells-read words (i + 1) (kindAfter (i % 6) w kind) (at + length here) post fit (after bytes here (rest ++ post) at e'))
         ∙ ap (λ (k : ℕ). given (record { words = w ∷ words; next = k })) end)
 
--- past its word 0, the node of word i has this kind
-abbrev KindAt : List ℕ → ℕ → ℕ → Type 0
-KindAt table i kind = (i % 6 ≡ 0 → ⊥) → getD table (i / 6 * 6) 0 ≡ kind
-
-kind-next : (table : List ℕ) (i kind : ℕ) → KindAt table i kind → KindAt table (i + 1) (kindAfter (i % 6) (getD table i 0) kind)
+-- so has the node of the next word
+kind-next : (table : List ℕ) (i kind : ℕ) → KindOf table i kind → KindOf table (i + 1) (kindAfter (i % 6) (getD table i 0) kind)
 kind-next table i kind k n = by (ℕ-discrete (i % 6) 0)
   where
     by : Dec (i % 6 ≡ 0) → getD table ((i + 1) / 6 * 6) 0 ≡ kindAfter (i % 6) (getD table i 0) kind
@@ -85,7 +83,7 @@ module _ (registers nodes entry : ℕ) (table : List ℕ) (ok : runnableCheck re
   passed : Passed runnable registers nodes entry table
   passed = runnable-passed registers nodes entry table ok
 
-  in-order : (i kind : ℕ) → i < 6 * nodes → KindAt table i kind → fault 8 registers nodes (roleAt kind (i % 6)) (getD table i 0) ≡ 0
+  in-order : (i kind : ℕ) → i < 6 * nodes → KindOf table i kind → fault 8 registers nodes (roleAt kind (i % 6)) (getD table i 0) ≡ 0
   unfolding faultAt roleAt
   in-order i kind l k = by (ℕ-discrete (i % 6) 0) (passed .in-order i l)
     where
@@ -93,7 +91,7 @@ module _ (registers nodes entry : ℕ) (table : List ℕ) (ok : runnableCheck re
       by (yes z) h = rw z (rw z at h)
       by (no z) h = rw (← k z) h
 
-  fit : (left i kind : ℕ) → i + left ≡ 6 * nodes → KindAt table i kind → Fit registers nodes (take left (drop i table)) i kind
+  fit : (left i kind : ℕ) → i + left ≡ 6 * nodes → KindOf table i kind → Fit registers nodes (take left (drop i table)) i kind
   fit zero i kind count k = tt
   fit (suc left) i kind count k =
       let l : i < length table = omega (arith, passed .room) in

@@ -19,7 +19,7 @@ use Rattle.file.proofs.InOrder.{InOrder, none, more, in-order-length}
 use Rattle.file.proofs.Accepted.{Accepted}
 
 -- past its word 0, the node of word i has this kind
-abbrev KindOf : List ℕ → ℕ → ℕ → Type 0
+abbrev pub KindOf : List ℕ → ℕ → ℕ → Type 0
 KindOf before i kind = (i % 6 ≡ 0 → ⊥) → getD before (i / 6 * 6) 0 ≡ kind
 
 kind-next : (before : List ℕ) (w i kind : ℕ) → length before ≡ i → KindOf before i kind → KindOf (before ++ w ∷ []) (i + 1) (kindAfter (i % 6) w kind)

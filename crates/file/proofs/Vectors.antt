@@ -1,13 +1,14 @@
--- Document 01, "One listing, whole" and "Runs to agree on": the reader's vectors, computed from the definitions.
+-- Document 01, "One listing, whole" and "Runs to agree on": the reader's and the writer's vectors, computed from the definitions.
 -- Assumes nothing.
 use Prim.Native.Nat.{ℕ}
 use mathlib.Core.Path.{_≡_, refl}
 use mathlib.Core.List.{List, [], _∷_}
 use Rattle.words.specs.Answer.{given, refused}
 use Rattle.words.specs.Buffer.{over}
-use Rattle.words.specs.Number.{byteAt, groups, numberAt}
+use Rattle.words.specs.Number.{byteAt, groups, numberAt, shortest, numberOf}
 use Rattle.graph.specs.Kinds.{layouts, roleAt}
 use Rattle.file.specs.Reading.{countAt, fieldAt, cellAt, cellsFrom, bodyOf, contentsOf, readAnswer, readTable}
+use Rattle.file.specs.Writing.{cellOf, cellsOf, headerOf, fileOf}
 
 -- bytes 80 00
 pub not-shortest : (room : ℕ) → readAnswer (0x80 ∷ 0x00 ∷ []) room ≡ refused 2 0
@@ -40,21 +41,30 @@ unfolding fileA byteAt groups numberAt layouts roleAt countAt fieldAt cellAt cel
 answerA = refl
 
 -- its 30 words, in a table of 31
-pub tableA :
-    readTable
-    fileA
-    (9 ∷ 9 ∷ 9 ∷ 9 ∷ 9 ∷ 9 ∷ 9 ∷ 9 ∷ 9 ∷ 9 ∷ 9 ∷ 9 ∷ 9 ∷ 9 ∷ 9 ∷ 9 ∷ 9 ∷ 9 ∷ 9 ∷ 9 ∷ 9 ∷ 9 ∷ 9 ∷ 9 ∷ 9 ∷ 9 ∷ 9 ∷ 9 ∷ 9 ∷ 9 ∷ 9 ∷ [])
-    ≡ 5 ∷ 0 ∷ 1 ∷ 0 ∷ 0 ∷ 0
+unfoldable pub wordsA : List ℕ
+wordsA =
+    5 ∷ 0 ∷ 1 ∷ 0 ∷ 0 ∷ 0
     ∷ 4 ∷ 0 ∷ 0 ∷ 7 ∷ 2 ∷ 3
     ∷ 6 ∷ 1 ∷ 0 ∷ 4 ∷ 0 ∷ 0
     ∷ 1 ∷ 1 ∷ 9 ∷ 4 ∷ 0 ∷ 0
     ∷ 7 ∷ 1 ∷ 0 ∷ 0 ∷ 0 ∷ 0
     ∷ 9
     ∷ []
-unfolding fileA over byteAt groups numberAt layouts roleAt countAt fieldAt cellAt cellsFrom bodyOf contentsOf readTable
+
+pub tableA :
+    readTable
+    fileA
+    (9 ∷ 9 ∷ 9 ∷ 9 ∷ 9 ∷ 9 ∷ 9 ∷ 9 ∷ 9 ∷ 9 ∷ 9 ∷ 9 ∷ 9 ∷ 9 ∷ 9 ∷ 9 ∷ 9 ∷ 9 ∷ 9 ∷ 9 ∷ 9 ∷ 9 ∷ 9 ∷ 9 ∷ 9 ∷ 9 ∷ 9 ∷ 9 ∷ 9 ∷ 9 ∷ 9 ∷ [])
+    ≡ wordsA
+unfolding fileA wordsA over byteAt groups numberAt layouts roleAt countAt fieldAt cellAt cellsFrom bodyOf contentsOf readTable
 tableA = refl
 
 -- a table one word short
 pub shortA : readAnswer fileA 29 ≡ refused 4 30
 unfolding fileA byteAt groups numberAt countAt contentsOf readAnswer
 shortA = refl
+
+-- written from that table
+pub writtenA : fileOf 2 5 0 wordsA ≡ fileA
+unfolding fileA wordsA shortest numberOf layouts roleAt cellOf cellsOf headerOf fileOf
+writtenA = refl

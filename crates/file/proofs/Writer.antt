@@ -1,6 +1,6 @@
 -- Theorems on the writer: what was written is read, what was read is written, a graph has one file, and how long it can be.
 -- Assumes nothing.
-use mathlib.Core.Path.{_≡_, refl, sym, ap, _∙_}
+use mathlib.Core.Path.{_≡_, sym, ap, _∙_}
 use mathlib.Core.List.{List, _++_}
 use Prim.Native.Nat.{ℕ, _*_, _≤_}
 use native.Mathlib.Omega.{arith}
@@ -8,9 +8,9 @@ use lib.ListN.{length, take, drop}
 use lib.Seq.{length-take-le, take-append-seam}
 use lib.Dec.{leb}
 use borrow.Author.Tests.{le-leb, leb-true}
-use Rattle.words.specs.Answer.{Answer, given, refused, demand}
+use Rattle.words.specs.Answer.{given, demand}
 use Rattle.words.specs.Buffer.{over}
-use Rattle.words.proofs.Answers.{when-given}
+use Rattle.words.proofs.Answers.{when-given, given-same}
 use Rattle.words.proofs.AllWords.{AllWords}
 use Rattle.graph.specs.declared.Header.{Header}
 use Rattle.graph.specs.Checks.{runnableCheck}
@@ -39,10 +39,6 @@ pub file-longest : (registers nodes entry : ℕ) (table : List ℕ) → runnable
 file-longest registers nodes entry table ok all =
     longest (fileOf registers nodes entry table) (length table) _ (file-read registers nodes entry table table ok all (runnable-room registers nodes entry table ok) .0)
 
-sizeIn : Answer ℕ → ℕ
-sizeIn (given size) = size
-sizeIn (refused number place) = place
-
 -- a file that was written had room
 pub written-room : (registers nodes entry : ℕ) (table : List ℕ) (room size : ℕ) → writeAnswer registers nodes entry table room ≡ given size →
     length (fileOf registers nodes entry table) ≤ room
@@ -62,12 +58,12 @@ pub record Stands (registers nodes entry size : ℕ) (table out : List ℕ) : Ty
 
 module _ (registers nodes entry size : ℕ) (table out : List ℕ) (done : writeAnswer registers nodes entry table (length out) ≡ given size) where
   pub written : Stands registers nodes entry size table out
-  unfolding writeAnswer writeOutput over sizeIn
+  unfolding writeAnswer writeOutput over
   written =
       let file : List ℕ = fileOf registers nodes entry table in
       let parts = and-given (runnableCheck registers nodes entry table) _ done in
       let room = demand-given (leb (length file) (length out)) 15 (length file) _ (parts .2) in
-      let s : size ≡ length file = sym (ap sizeIn (room .1)) in
+      let s : size ≡ length file = sym (given-same (room .1)) in
       record {
         graph = parts .1;
         size-is = s;

@@ -9,8 +9,9 @@ use mathlib.Core.List.{List, [], _∷_, _++_}
 use lib.ListN.{length, getD, drop, length-append}
 use lib.Dec.{leb}
 use borrow.Author.Tests.{lt-ltb}
-use Rattle.words.specs.Answer.{Answer, given, refused}
+use Rattle.words.specs.Answer.{given}
 use Rattle.words.specs.Buffer.{over}
+use Rattle.words.proofs.Answers.{given-same}
 use Rattle.graph.specs.declared.Header.{Header}
 use Rattle.graph.specs.Limits.{runnable}
 use Rattle.graph.specs.Kinds.{layouts, roleAt, fault}
@@ -175,10 +176,6 @@ module _ (s : Source) (ok : SourceGraph (s .registers) (s .nodes) (s .entry) (s 
         in-order = λ i h. table-order (R + 2) H (hardenedRows s) rest rows-in i (rw rows-length h);
       })
 
-headerIn : Header → Answer Header → Header
-headerIn k (given h) = h
-headerIn k (refused number place) = k
-
 -- the same of a table that `check_source` accepts
 pub accepted-runnable : (registers nodes entry : ℕ) (table rest : List ℕ) → sourceCheck registers nodes entry table ≡ given tt
     → runnableCheck (registers + 2) (hardenedCount (sourceOf registers nodes entry table)) nodes (hardenedTable (sourceOf registers nodes entry table) ++ rest) ≡ given tt
@@ -189,11 +186,11 @@ accepted-runnable registers nodes entry table rest accepted =
 -- and of what `harden` answers and leaves in the output
 pub output-runnable : (registers nodes entry : ℕ) (table out : List ℕ) (k : Header) → hardenAnswer registers nodes entry table (length out) ≡ given k
     → runnableCheck (k .registers) (k .nodes) (k .entry) (hardenOutput registers nodes entry table out) ≡ given tt
-unfolding hardenAnswer hardenOutput over headerIn
+unfolding hardenAnswer hardenOutput over
 output-runnable registers nodes entry table out k e =
     let h : ℕ = hardenedCount (sourceOf registers nodes entry table) in
     let words : List ℕ = hardenedTable (sourceOf registers nodes entry table) in
     let parts = and-given (sourceCheck registers nodes entry table) _ e in
     let room = demand-given {A = Header} (leb (6 * h) (length out)) 11 (6 * h) _ (parts .2) in
-    let same : record { registers = registers + 2; nodes = h; entry = nodes } ≡ k = ap (headerIn k) (room .1) in
+    let same : record { registers = registers + 2; nodes = h; entry = nodes } ≡ k = given-same (room .1) in
     rw (← same, parts .1, room .0) (accepted-runnable registers nodes entry table (drop (length words) out) (parts .1))

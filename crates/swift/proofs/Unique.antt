@@ -219,6 +219,9 @@ unique-desk-run κs a o u p q = let (prints, texts) = shown-one p q in both prin
 pub unique-desk-score : OneAnswer desk.score.ended desk.score.Reads.Post
 unique-desk-score κs a o u p q = let (prints, texts) = shown-one p q in both prints (past (past (both texts refl)))
 
+pub unique-desk-file : OneAnswer desk.file.ended desk.file.Reads.Post
+unique-desk-file κs a o u p q = let (prints, texts) = shown-one p q in both prints (past (past (both texts refl)))
+
 -- ---- console
 
 pub unique-console-file-space : OneAnswer console.file_space.ended console.file_space.Reads.Post

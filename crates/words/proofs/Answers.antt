@@ -1,6 +1,6 @@
 -- What holds of an answer: P of a value given, Q of a refusal's number and place; and how it is carried through the checks.
 -- Assumes nothing.
-use mathlib.Core.Path.{_≡_, refl, sym, subst}
+use mathlib.Core.Path.{_≡_, refl, sym, ap, subst}
 use mathlib.Core.Bool.{Bool, true, false, cond, _||_, _&&_, true≢false}
 use mathlib.Core.Logic.{_⊎_, inl, inr}
 use Prim.Native.Nat.{ℕ}
@@ -56,6 +56,19 @@ both false b h = (h, absurd (true≢false (sym h)))
 pub either : (a b : Bool) → (a || b) ≡ true → (a ≡ true) ⊎ (b ≡ true)
 either true b h = inl refl
 either false b h = inr h
+
+-- no matter how it is refused
+abbrev pub Any : ℕ → ℕ → Type 0
+Any number place = Unit {0}
+
+valueOr : {A : Type 0} → A → Answer A → A
+valueOr a (given b) = b
+valueOr a (refused number place) = a
+
+-- two values given alike are one
+pub given-same : {A : Type 0} {a b : A} → given a ≡ given b → a ≡ b
+unfolding valueOr
+given-same {a = a} e = ap (valueOr a) e
 
 -- two ways to go on that agree at the value that is given
 pub then-same : {A B : Type 0} (answer : Answer A) (f g : A → Answer B) → ((a : A) → answer ≡ given a → f a ≡ g a) →

@@ -14,7 +14,7 @@ use borrow.Author.Tests.{lt-ltb, le-ltb, eq-eqb, ltb-true, ltb-false}
 use Rattle.words.specs.Answer.{Answer, given}
 use Rattle.words.specs.Number.{Reading, reading, byteAt, carry, groups, numberAt, shortest, numberOf}
 use Rattle.words.proofs.Ways.{inside-of}
-use Rattle.words.proofs.Answers.{Of, of-given, of-refused, of-demand, of-cond, when-given, both}
+use Rattle.words.proofs.Answers.{Of, of-given, of-refused, of-demand, of-cond, when-given, both, Any}
 use Rattle.words.proofs.Numbers.{Groups, Malformed, groups-law}
 use Rattle.words.proofs.Shortest.{shortest-last, shortest-more}
 
@@ -78,9 +78,6 @@ number-read bytes post at v small e = by (ℕ-discrete v 0)
 -- the bytes from a position on are a value's form, and then what stands after it
 abbrev Form : List ℕ → ℕ → ℕ → Reading → Type 0
 Form bytes more at r = drop at bytes ≡ shortest more (r .value) ++ drop (r .next) bytes
-
-abbrev Any : ℕ → ℕ → Type 0
-Any number place = Unit {0}
 
 module _ (bytes : List ℕ) (place : ℕ) where
   -- one byte of those that are left

@@ -3,7 +3,7 @@
 use mathlib.Core.Path.{_≡_, refl}
 use mathlib.Core.List.{[], _∷_}
 use Rattle.words.specs.Answer.{refused}
-use Rattle.words.specs.Number.{reading, byteAt, groups, numberAt}
+use Rattle.words.specs.Number.{reading, byteAt, groups, numberAt, shortest, numberOf}
 
 -- bytes 80 00
 pub not-shortest : numberAt (0x80 ∷ 0x00 ∷ []) 0 ≡ refused 2 0
@@ -24,6 +24,10 @@ no-bytes = refl
 pub largest : numberAt (0xff ∷ 0xff ∷ 0xff ∷ 0xff ∷ 0x0f ∷ []) 0 ≡ reading 0xffff_ffff 5
 unfolding byteAt groups numberAt
 largest = refl
+
+pub largest-written : numberOf 0xffff_ffff ≡ 0xff ∷ 0xff ∷ 0xff ∷ 0xff ∷ 0x0f ∷ []
+unfolding shortest numberOf
+largest-written = refl
 
 -- a fifth byte over 15
 pub too-large : numberAt (0xff ∷ 0xff ∷ 0xff ∷ 0xff ∷ 0x10 ∷ []) 0 ≡ refused 2 0
