@@ -96,7 +96,11 @@ module _ (registers nodes entry : ℕ) (table : List ℕ) (ok : runnableCheck re
   fit (suc left) i kind count k =
       let l : i < length table = omega (arith, passed .room) in
       rw (drop-cons table i 0 l, ← add-one i)
-      (in-order i kind (omega arith) k, word-at table i all, fit left (i + 1) (kindAfter (i % 6) (getD table i 0) kind) (omega arith) (kind-next table i kind k))
+      (
+        in-order i kind (omega arith) k,
+        word-at table i all,
+        fit left (i + 1) (kindAfter (i % 6) (getD table i 0) kind) (omega arith) (kind-next table i kind k),
+      )
 
   abbrev bytes : List ℕ
   bytes = fileOf registers nodes entry table
@@ -142,7 +146,8 @@ module _ (registers nodes entry : ℕ) (table : List ℕ) (ok : runnableCheck re
   body-read : bodyOf bytes registers nodes at-entry ≡ given contents
   unfolding bodyOf
   body-read =
-      let e = field-read registers nodes bytes Target entry at-entry cells (rw (lt-ltb entry nodes (passed .entry-in))) (omega (arith, passed .entry-in, passed .few-nodes)) entry-there in
+      let small : entry < 2 ^ 32 = omega (arith, passed .entry-in, passed .few-nodes) in
+      let e = field-read registers nodes bytes Target entry at-entry cells (rw (lt-ltb entry nodes (passed .entry-in))) small entry-there in
       let c = cells-read registers nodes bytes (take (6 * nodes) table) 0 0 first [] (fit (6 * nodes) 0 0 (omega arith) (λ n. absurd (n refl))) cells-there in
       let count : length (take (6 * nodes) table) ≡ 6 * nodes = length-take-le (6 * nodes) table (passed .room) in
       let whole : length bytes ≤ first + length cells = omega (arith, end) in
@@ -156,5 +161,6 @@ module _ (registers nodes entry : ℕ) (table : List ℕ) (ok : runnableCheck re
   file-contents room fits =
       let r = number-read bytes (numberOf nodes ++ (numberOf entry ++ cells)) 0 registers (omega (arith, passed .few-registers)) registers-there in
       let n = number-read bytes (numberOf entry ++ cells) at-nodes nodes (omega (arith, passed .few-nodes)) nodes-there in
-      rw (r, range-in 1 64 registers (passed .some-registers) (passed .few-registers), n, range-in 1 2050 nodes (passed .some-nodes) (passed .few-nodes), le-leb (6 * nodes) room fits)
-      body-read
+      let few-registers = range-in 1 64 registers (passed .some-registers) (passed .few-registers) in
+      let few-nodes = range-in 1 2050 nodes (passed .some-nodes) (passed .few-nodes) in
+      rw (r, few-registers, n, few-nodes, le-leb (6 * nodes) room fits) body-read

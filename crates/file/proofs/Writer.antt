@@ -24,7 +24,8 @@ use Rattle.file.proofs.OneForm.{accepted-form}
 use Rattle.file.proofs.ReadBack.{file-contents}
 
 -- a graph's file, read back: the same R, N, entry and words, and what stands behind them in the table stays
-pub file-read : (registers nodes entry : ℕ) (table into : List ℕ) → runnableCheck registers nodes entry table ≡ given tt → AllWords table → 6 * nodes ≤ length into →
+pub file-read : (registers nodes entry : ℕ) (table into : List ℕ) → runnableCheck registers nodes entry table ≡ given tt → AllWords table →
+    6 * nodes ≤ length into →
     (readAnswer (fileOf registers nodes entry table) (length into) ≡ given (record { registers = registers; nodes = nodes; entry = entry }))
     × (readTable (fileOf registers nodes entry table) into ≡ take (6 * nodes) table ++ drop (6 * nodes) into)
 unfolding readAnswer readTable over
@@ -37,7 +38,8 @@ file-read registers nodes entry table into ok all fits =
 pub file-longest : (registers nodes entry : ℕ) (table : List ℕ) → runnableCheck registers nodes entry table ≡ given tt → AllWords table →
     length (fileOf registers nodes entry table) ≤ 24605
 file-longest registers nodes entry table ok all =
-    longest (fileOf registers nodes entry table) (length table) _ (file-read registers nodes entry table table ok all (runnable-room registers nodes entry table ok) .0)
+    let room = runnable-room registers nodes entry table ok in
+    longest (fileOf registers nodes entry table) (length table) _ (file-read registers nodes entry table table ok all room .0)
 
 -- a file that was written had room
 pub written-room : (registers nodes entry : ℕ) (table : List ℕ) (room size : ℕ) → writeAnswer registers nodes entry table room ≡ given size →
@@ -74,7 +76,8 @@ module _ (registers nodes entry size : ℕ) (table out : List ℕ) (done : write
 
   -- Reading what was written, into any table with room, gives the same R, N and entry and the same words, whatever stands behind them.
   pub read-written : AllWords table → (into : List ℕ) → 6 * nodes ≤ length into →
-      (readAnswer (take size (writeOutput registers nodes entry table out)) (length into) ≡ given (record { registers = registers; nodes = nodes; entry = entry }))
+      (readAnswer (take size (writeOutput registers nodes entry table out)) (length into)
+      ≡ given (record { registers = registers; nodes = nodes; entry = entry }))
       × (readTable (take size (writeOutput registers nodes entry table out)) into ≡ take (6 * nodes) table ++ drop (6 * nodes) into)
   read-written all into fits = rw (written .file) (file-read registers nodes entry table into (written .graph) all fits)
 
@@ -101,7 +104,8 @@ module _ (bytes table : List ℕ) (header : Header) (read : readAnswer bytes (le
 
   -- Writing what was read gives the same bytes, and takes as many.
   pub write-read : (room : ℕ) →
-      writeAnswer (header .registers) (header .nodes) (header .entry) (readTable bytes table) room ≡ demand (leb (length bytes) room) 15 (length bytes) (given (length bytes))
+      writeAnswer (header .registers) (header .nodes) (header .entry) (readTable bytes table) room
+      ≡ demand (leb (length bytes) room) 15 (length bytes) (given (length bytes))
   unfolding writeAnswer
   write-read room = rw (read-runnable bytes table header read, read-form)
 

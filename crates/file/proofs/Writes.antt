@@ -124,7 +124,8 @@ module _ (registers nodes entry first : ℕ) (table : List ℕ) (h : first ≡ l
       out₂ ≡ put out₁ first (cellsOf (take (6 * nodes) table) 0 0) → out₂ ≡ put out₀ 0 (fileOf registers nodes entry table)
   unfolding fileOf
   file-bytes out₀ out₁ out₂ p q =
-      q ∙ rw p (put-at out₀ 0 first (headerOf registers nodes entry) (cellsOf (take (6 * nodes) table) 0 0) (h ∙ sym (zero-add (length (headerOf registers nodes entry)))))
+      let header : List ℕ = headerOf registers nodes entry in
+      q ∙ rw p (put-at out₀ 0 first header (cellsOf (take (6 * nodes) table) 0 0) (h ∙ sym (zero-add (length header))))
 
 -- what was put into no bytes at all stands nowhere
 pub nothing-put : (l out : List ℕ) → length l ≡ 0 → l ++ out ≡ out

@@ -36,7 +36,8 @@ module _ (bytes post : List ℕ) (place : ℕ) where
 
   -- a byte with others after it
   read-longer : (more at v : ℕ) → 128 ≤ v → drop at bytes ≡ shortest (suc more) v ++ post →
-      (drop (at + 1) bytes ≡ shortest more (v / 128) ++ post → groups bytes place more (at + 1) ≡ reading (v / 128) (at + 1 + length (shortest more (v / 128)))) →
+      (drop (at + 1) bytes ≡ shortest more (v / 128) ++ post →
+      groups bytes place more (at + 1) ≡ reading (v / 128) (at + 1 + length (shortest more (v / 128)))) →
       groups bytes place (suc more) at ≡ reading v (at + length (shortest (suc more) v))
   unfolding groups byteAt
   read-longer more at v h e rest =
@@ -114,8 +115,12 @@ module _ (bytes : List ℕ) (place : ℕ) where
   groups-form (suc more) at h =
       of-demand (ltb (byteAt bytes at) 256) 1 place _
       (λ t. of-cond (ltb (byteAt bytes at) 128) _ _
-      (λ s. of-demand (ltb 0 (byteAt bytes at) || eqb at place) 2 place _ (λ _. of-given (last-form (suc more) at (byteAt bytes at) refl (ltb-true _ _ s))) (λ _. tt))
-      (λ s. of-carry more at (byteAt bytes at) h refl (ltb-false _ _ s) (ltb-true _ _ t) (groups-law bytes place more (at + 1)) (groups-form more (at + 1) (omega arith))))
+      (λ s. of-demand (ltb 0 (byteAt bytes at) || eqb at place) 2 place _
+      (λ _. of-given (last-form (suc more) at (byteAt bytes at) refl (ltb-true _ _ s)))
+      (λ _. tt))
+      (λ s. of-carry more at (byteAt bytes at) h refl (ltb-false _ _ s) (ltb-true _ _ t)
+      (groups-law bytes place more (at + 1))
+      (groups-form more (at + 1) (omega arith))))
       (λ _. tt)
 
 -- what was read is written

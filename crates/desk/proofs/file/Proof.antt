@@ -8,11 +8,15 @@ use Rattle.desk.proofs.file.Tie as tie
 
 returns : tie.Need-returns
 unfolding fileProgram
-returns c = rw (sym (c .before .before .before .before .before .before .before .file-mode .ensures), c .before .before .before .before .before .hardened .given .1) (c .before .before .file-graph .ensures)
+returns c =
+    let mode = c .before .before .before .before .before .before .before .file-mode .ensures in
+    rw (sym mode, c .before .before .before .before .before .hardened .given .1) (c .before .before .file-graph .ensures)
 
 returns-2 : tie.Need-returns-2
 unfolding fileProgram
-returns-2 c = rw (sym (c .before .before .before .before .before .before .before .file-mode .ensures), c .before .before .before .before .before .wanted .given .1) (complained (c .before .before .complaint .ensures))
+returns-2 c =
+    let mode = c .before .before .before .before .before .before .before .file-mode .ensures in
+    rw (sym mode, c .before .before .before .before .before .wanted .given .1) (complained (c .before .before .complaint .ensures))
 
 pub file-spec : {M : Type 1} → statement M
 file-spec =

@@ -24,8 +24,9 @@ loop-holds c = (left-all _ (omega arith), refl, put-first _ _ _)
 loop-again : tie.Need-loop-again Inv-loop μ-loop
 loop-again c =
     let inv = c .before .before .before .before .before .loop .inv in
-    let stored = c .before .before .store .ensures in
-    (left-more _ _ _ (inv .0) (c .before .before .before .before .loop-test .taken), c .before .before .store .kept .0 ∙ inv .1, inv .2 ∙ put-longer _ _ _ (inv .0) (c .before .before .before .before .loop-test .taken) _ _ _ stored)
+    let more = c .before .before .before .before .loop-test .taken in
+    let store = c .before .before .store in
+    (left-more _ _ _ (inv .0) more, store .kept .0 ∙ inv .1, inv .2 ∙ put-longer _ _ _ (inv .0) more _ _ _ (store .ensures))
 
 returns : tie.Need-returns Inv-loop μ-loop
 returns c =

@@ -11,13 +11,19 @@ returns : tie.Need-returns
 returns c =
     let loaded = c .before .before .before .before .before .before .before .before .before .load in
     let a = c .before .before .before .before .before .before .before .before .before .before .before .before .before .before .args in
-    then-file (graphIn (a .hardened) (now (a .bytes))) (loaded .result) _ (loaded .last .1 .1 .0) _ (loaded .ensures) (c .before .before .before .before .before .before .answer .given .1) (c .before .before .file-table .ensures)
+    then-file (graphIn (a .hardened) (now (a .bytes))) (loaded .result) _ (loaded .last .1 .1 .0) _
+    (loaded .ensures)
+    (c .before .before .before .before .before .before .answer .given .1)
+    (c .before .before .file-table .ensures)
 
 returns-2 : tie.Need-returns-2
 returns-2 c =
     let loaded = c .before .before .before .before .before .before .before .before .load in
     let a = c .before .before .before .before .before .before .before .before .before .before .before .before .before .args in
-    then-file (graphIn (a .hardened) (now (a .bytes))) (loaded .result) _ (loaded .last .1 .1 .0) _ (loaded .ensures) (c .before .before .before .before .before .answer2 .given .1) (complained (c .before .before .refusal .ensures))
+    then-file (graphIn (a .hardened) (now (a .bytes))) (loaded .result) _ (loaded .last .1 .1 .0) _
+    (loaded .ensures)
+    (c .before .before .before .before .before .answer2 .given .1)
+    (complained (c .before .before .refusal .ensures))
 
 pub file-graph-spec : {M : Type 1} → statement M
 file-graph-spec =

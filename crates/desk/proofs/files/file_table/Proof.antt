@@ -9,12 +9,15 @@ use Rattle.desk.proofs.files.file_table.Tie as tie
 returns : tie.Need-returns
 returns c =
     let wrote = c .before .before .before .before .before .write .ensures in
-    file-shown _ _ (now (c .before .before .before .before .before .before .before .before .before .args .text)) _ _ (wrote .0) (wrote .1) _ (c .before .size .given .1)
+    let text = now (c .before .before .before .before .before .before .before .before .before .args .text) in
+    file-shown _ _ text _ _ (wrote .0) (wrote .1) _ (c .before .size .given .1)
 
 returns-2 : tie.Need-returns-2
 returns-2 c =
     let wrote = c .before .before .before .before .before .before .before .before .before .write .ensures in
-    file-refused _ _ (now (c .before .before .before .before .before .before .before .before .before .before .before .before .before .args .text)) _ _ (wrote .0) (wrote .1) _ _ _ (c .before .before .before .before .before .number .given .1) (c .before .before .refusal .ensures)
+    let text = now (c .before .before .before .before .before .before .before .before .before .before .before .before .before .args .text) in
+    let number = c .before .before .before .before .before .number .given .1 in
+    file-refused _ _ text _ _ (wrote .0) (wrote .1) _ _ _ number (c .before .before .refusal .ensures)
 
 pub file-table-spec : {M : Type 1} → statement M
 file-table-spec =

@@ -15,17 +15,21 @@ abbrev μ-loop : tie.MeasureT-loop
 
 add-at : tie.Need-add-at Inv-loop μ-loop
 add-at c =
-    omega (arith, c .before .before .before .before .before .before .before .before .before .before .pre .1, walk-short _ _ _ _ _ _ _ (c .before .before .before .before .before .before .before .loop .inv) _ _ _ (c .before .before .put-cell .ensures .0))
+    let few = c .before .before .before .before .before .before .before .before .before .before .pre .1 in
+    let inv = c .before .before .before .before .before .before .before .loop .inv in
+    omega (arith, few, walk-short _ _ _ _ _ _ _ inv _ _ _ (c .before .before .put-cell .ensures .0))
 
 loop-again : tie.Need-loop-again Inv-loop μ-loop
 loop-again c =
-    walk-more _ _ _ _ _ _ _ (c .before .before .before .before .before .before .before .before .loop .inv) _ _ _ (c .before .before .before .put-cell .ensures .0) _ _
+    let inv = c .before .before .before .before .before .before .before .before .loop .inv in
+    let put = c .before .before .before .put-cell in
+    walk-more _ _ _ _ _ _ _ inv _ _ _ (put .ensures .0) _ _
     (c .before .before .before .before .before .before .before .loop-test .taken)
     (c .before .before .before .before .before .before .word .ensures)
     (c .before .before .before .before .role-at .ensures)
     (c .kind-after .ensures)
-    (c .before .before .before .put-cell .kept .0)
-    (c .before .before .before .put-cell .ensures .1)
+    (put .kept .0)
+    (put .ensures .1)
 
 returns : tie.Need-returns Inv-loop μ-loop
 returns c =

@@ -33,7 +33,8 @@ cells-there c = sym (length-take-le _ _ (runnable-room _ _ _ _ (c .before .befor
 put-cells-requires : tie.Need-put-cells-requires
 put-cells-requires c κs =
     let ok = c .before .before .before .before .before .before .before .before .pre in
-    (c .before .before .before .before .put-header .ensures .1 .0, rw (length-take-le _ _ (runnable-room _ _ _ _ ok)) (omega (arith, runnable-facts _ _ _ _ ok .few-nodes)))
+    let few = runnable-facts _ _ _ _ ok .few-nodes in
+    (c .before .before .before .before .put-header .ensures .1 .0, rw (length-take-le _ _ (runnable-room _ _ _ _ ok)) (omega (arith, few)))
 
 pub put-file-spec : {M : Type 1} → statement M
 put-file-spec =

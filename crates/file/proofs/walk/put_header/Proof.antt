@@ -6,11 +6,15 @@ use Rattle.file.proofs.walk.put_header.Statement.{statement}
 use Rattle.file.proofs.walk.put_header.Tie as tie
 
 add-second : tie.Need-add-second
-add-second c = omega (arith, header-second _ _ _ _ (c .before .before .before .before .before .before .put-number .ensures .0) (c .before .before .put-number2 .ensures .0))
+add-second c =
+    let first = c .before .before .before .before .before .before .put-number .ensures in
+    omega (arith, header-second _ _ _ _ (first .0) (c .before .before .put-number2 .ensures .0))
 
 add-result : tie.Need-add-result
 add-result c =
-    omega (arith, header-third _ _ _ _ _ _ (c .before .before .before .before .before .before .before .before .before .before .put-number .ensures .0) (c .before .before .before .before .before .before .put-number2 .ensures .0) (c .before .before .put-number3 .ensures .0))
+    let first = c .before .before .before .before .before .before .before .before .before .before .put-number .ensures in
+    let second = c .before .before .before .before .before .before .put-number2 .ensures in
+    omega (arith, header-third _ _ _ _ _ _ (first .0) (second .0) (c .before .before .put-number3 .ensures .0))
 
 returns : tie.Need-returns
 returns c =

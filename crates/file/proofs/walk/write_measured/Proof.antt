@@ -11,7 +11,8 @@ returns c =
     let sized = c .before .before .before .put-file in
     let out = now (c .before .before .before .before .before .before .before .args .out) in
     let untouched = nothing-put (sized .last .0) out (sized .kept .0) in
-    let short = write-short _ _ _ _ _ (c .before .before .before .before .before .before .before .pre) (sized .ensures .0) out (rw untouched at (c .if1 .taken)) in
+    let ok = c .before .before .before .before .before .before .before .pre in
+    let short = write-short _ _ _ _ _ ok (sized .ensures .0) out (rw untouched at (c .if1 .taken)) in
     (short .0, untouched ∙ short .1)
 
 returns-2 : tie.Need-returns-2
