@@ -1,6 +1,6 @@
 -- Whatever graph `hfile` loads, as it is read or hardened, its file is printed: the graph is runnable, and the text has room.
 -- Assumes nothing.
-use mathlib.Core.Path.{_≡_, refl}
+use mathlib.Core.Path.{_≡_}
 use mathlib.Core.Bool.{Bool, true, false}
 use mathlib.Core.List.{List}
 use Prim.Native.Nat.{ℕ, _≤_}

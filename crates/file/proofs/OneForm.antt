@@ -2,7 +2,7 @@
 -- Assumes nothing.
 use mathlib.Core.Path.{_≡_, refl, sym, ap, _∙_}
 use mathlib.Core.Bool.{Bool, true, false, cond}
-use mathlib.Core.List.{List, [], _∷_, _++_, append-assoc, append-nil}
+use mathlib.Core.List.{List, [], _++_, append-assoc, append-nil}
 use Prim.Native.Nat.{ℕ, _+_, _%_}
 use lib.ListN.{drop, drop-of-length-le}
 use Rattle.words.specs.Answer.{given}
@@ -10,7 +10,6 @@ use Rattle.words.specs.Number.{Reading, reading, numberAt, numberOf}
 use Rattle.words.proofs.Answers.{given-same}
 use Rattle.words.proofs.Forms.{number-form}
 use Rattle.graph.specs.declared.Role.{Role}
-use Rattle.graph.specs.declared.Role.the-variants.{Target}
 use Rattle.graph.specs.Kinds.{roleAt}
 use Rattle.file.specs.Reading.{Contents, stands, kindAfter}
 use Rattle.file.specs.Writing.{cellOf, cellsOf, headerOf}

@@ -1,7 +1,6 @@
 -- What the writer writes is read: the words of a runnable graph, one by one, and then the file, whole.
 -- Assumes nothing.
 use mathlib.Core.Path.{_≡_, refl, sym, ap, _∙_}
-use mathlib.Core.Bool.{true}
 use mathlib.Core.List.{List, [], _∷_, _++_, append-assoc, append-nil}
 use Prim.Native.Nat.{ℕ, zero, suc, _+_, _*_, _/_, _%_, _^_, _≤_, _<_}
 use native.Mathlib.Decide.{ℕ-discrete}
@@ -10,10 +9,10 @@ use native.Mathlib.Numerals.{add-one}
 use native.Mathlib.Omega.{arith}
 use lib.ListN.{length, getD, take, drop, length-append}
 use lib.Seq.{drop-cons, drop-drop, drop-append-seam, length-take-le}
-use lib.Dec.{eqb, leb}
+use lib.Dec.{eqb}
 use borrow.Author.Tests.{le-leb, lt-ltb, eq-eqb, ne-eqb, eqb-true}
 use Rattle.words.specs.Answer.{given}
-use Rattle.words.specs.Number.{reading, numberAt, numberOf}
+use Rattle.words.specs.Number.{reading, numberOf}
 use Rattle.words.proofs.AllWords.{AllWords, word-at}
 use Rattle.words.proofs.Forms.{number-read}
 use Rattle.graph.specs.declared.Role.{Role}
@@ -95,8 +94,7 @@ module _ (registers nodes entry : ℕ) (table : List ℕ) (ok : runnableCheck re
   fit zero i kind count k = tt
   fit (suc left) i kind count k =
       let l : i < length table = omega (arith, passed .room) in
-      rw (drop-cons table i 0 l, ← add-one i)
-      (
+      rw (drop-cons table i 0 l, ← add-one i) (
         in-order i kind (omega arith) k,
         word-at table i all,
         fit left (i + 1) (kindAfter (i % 6) (getD table i 0) kind) (omega arith) (kind-next table i kind k),

@@ -1,6 +1,6 @@
 -- `words::put_number` meets its contract. The loop's invariant: the number put into the buffer that was lent is the rest's
 -- bytes put into the buffer as it is, behind those that stand. Assumes nothing.
-use mathlib.Core.Path.{_≡_, refl, sym, ap, _∙_}
+use mathlib.Core.Path.{_≡_, refl, sym, _∙_}
 use Prim.Native.Nat.{_+_, _-_}
 use native.Mathlib.Omega.{arith}
 use borrow.Author.Needs.{needs}

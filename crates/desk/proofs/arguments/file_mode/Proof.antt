@@ -1,6 +1,6 @@
 -- `desk::arguments::file_mode` meets its contract: each way through it is one of `fileModeOf`.
 -- Assumes nothing.
-use mathlib.Core.Path.{refl, sym, ap, _∙_}
+use mathlib.Core.Path.{refl, ap, _∙_}
 use borrow.Author.Needs.{needs}
 use borrow.Author.Tests.{not-true, not-false}
 use Rattle.desk.specs.Arguments.{plainWord, sameText}
