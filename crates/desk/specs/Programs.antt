@@ -123,7 +123,7 @@ scoreWith cells (Wrong wanted) bytes = complaint (complaintLine wanted)
 unfoldable pub scoreProgram : List ℕ → List ℕ → Print
 scoreProgram cells bytes = scoreWith cells (settingsOf cells) bytes
 
--- a graph's file, for a text of this length
+-- document 02, K2: a graph's file, for a text of this length
 unfoldable pub fileIn : ℕ → Graph → Answer (List ℕ)
 fileIn room g =
     let h = g .header in

@@ -8,6 +8,7 @@ pub mod Sizes
 pub mod InOrder
 pub mod Accepted
 pub mod Taking
+pub mod Carried
 pub mod Runnable
 pub mod Reader
 pub mod Cuts

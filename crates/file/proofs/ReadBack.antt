@@ -2,15 +2,14 @@
 -- Assumes nothing.
 use mathlib.Core.Path.{_≡_, refl, sym, ap, _∙_}
 use mathlib.Core.List.{List, [], _∷_, _++_, append-assoc, append-nil}
-use Prim.Native.Nat.{ℕ, zero, suc, _+_, _*_, _/_, _%_, _^_, _≤_, _<_}
-use native.Mathlib.Decide.{ℕ-discrete}
+use Prim.Native.Nat.{ℕ, zero, suc, _+_, _*_, _%_, _^_, _≤_, _<_}
 use native.Mathlib.Nat.{add-zero}
 use native.Mathlib.Numerals.{add-one}
 use native.Mathlib.Omega.{arith}
 use lib.ListN.{length, getD, take, drop, length-append}
 use lib.Seq.{drop-cons, drop-drop, drop-append-seam, length-take-le}
 use lib.Dec.{eqb}
-use borrow.Author.Tests.{le-leb, lt-ltb, eq-eqb, ne-eqb, eqb-true}
+use borrow.Author.Tests.{le-leb, lt-ltb, eqb-true}
 use Rattle.words.specs.Answer.{given}
 use Rattle.words.specs.Number.{reading, numberOf}
 use Rattle.words.proofs.AllWords.{AllWords, word-at}
@@ -19,14 +18,14 @@ use Rattle.graph.specs.declared.Role.{Role}
 use Rattle.graph.specs.declared.Role.the-variants.{Kind, Operator, Comparison, Port, Register, Target, Free, Spare}
 use Rattle.graph.specs.Limits.{runnable}
 use Rattle.graph.specs.Kinds.{roleAt, fault}
-use Rattle.graph.specs.Checks.{faultAt, runnableCheck}
+use Rattle.graph.specs.Checks.{runnableCheck}
 use Rattle.graph.proofs.Ranges.{range-in}
 use Rattle.graph.proofs.Passed.{Passed}
 use Rattle.graph.proofs.Facts.{runnable-passed}
 use Rattle.file.specs.Reading.{Contents, kindAfter, countAt, fieldAt, cellAt, before, cellsFrom, bodyOf, contentsOf}
 use Rattle.file.specs.Writing.{cellOf, cellsOf, headerOf, fileOf}
 use Rattle.file.proofs.Refusals.{cond-zero}
-use Rattle.file.proofs.Runnable.{KindOf}
+use Rattle.file.proofs.Carried.{KindOf, kind-next, fault-same}
 
 -- the bytes after those that stand first
 after : (bytes xs ys : List ℕ) (at : ℕ) → drop at bytes ≡ xs ++ ys → drop (at + length xs) bytes ≡ ys
@@ -70,25 +69,12 @@ module _ (registers nodes : ℕ) where
         (ap (before w) (cells-read words (i + 1) (kindAfter (i % 6) w kind) (at + length here) post fit (after bytes here (rest ++ post) at e'))
         ∙ ap (λ (k : ℕ). given (record { words = w ∷ words; next = k })) end)
 
--- so has the node of the next word
-kind-next : (table : List ℕ) (i kind : ℕ) → KindOf table i kind → KindOf table (i + 1) (kindAfter (i % 6) (getD table i 0) kind)
-kind-next table i kind k n = by (ℕ-discrete (i % 6) 0)
-  where
-    by : Dec (i % 6 ≡ 0) → getD table ((i + 1) / 6 * 6) 0 ≡ kindAfter (i % 6) (getD table i 0) kind
-    by (yes z) = let e : (i + 1) / 6 * 6 ≡ i = omega arith in rw (eq-eqb (i % 6) 0 z, e)
-    by (no z) = let e : (i + 1) / 6 ≡ i / 6 = omega arith in rw (ne-eqb (i % 6) 0 z, e) (k z)
-
 module _ (registers nodes entry : ℕ) (table : List ℕ) (ok : runnableCheck registers nodes entry table ≡ given tt) (all : AllWords table) where
   passed : Passed runnable registers nodes entry table
   passed = runnable-passed registers nodes entry table ok
 
   in-order : (i kind : ℕ) → i < 6 * nodes → KindOf table i kind → fault 8 registers nodes (roleAt kind (i % 6)) (getD table i 0) ≡ 0
-  unfolding faultAt roleAt
-  in-order i kind l k = by (ℕ-discrete (i % 6) 0) (passed .in-order i l)
-    where
-      by : Dec (i % 6 ≡ 0) → faultAt 8 registers nodes table i ≡ 0 → fault 8 registers nodes (roleAt kind (i % 6)) (getD table i 0) ≡ 0
-      by (yes z) h = rw z (rw z at h)
-      by (no z) h = rw (← k z) h
+  in-order i kind l k = sym (fault-same registers nodes table i kind k) ∙ passed .in-order i l
 
   fit : (left i kind : ℕ) → i + left ≡ 6 * nodes → KindOf table i kind → Fit registers nodes (take left (drop i table)) i kind
   fit zero i kind count k = tt

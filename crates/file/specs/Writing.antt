@@ -15,7 +15,7 @@ use Rattle.file.specs.Reading.{stands, kindAfter}
 use Rattle.file.specs.declared.Writing.{Writing}
 use Rattle.file.specs.declared.Writing.the-variants.{Written, Refused}
 
--- document 01's numbers for each case of a write
+-- the documents' numbers for each case of a write
 abbrev pub writingOf : Writing → Answer ℕ
 writingOf (Written size) = given size
 writingOf (Refused number place) = refused number place

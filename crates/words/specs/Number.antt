@@ -1,4 +1,4 @@
--- Document 01, "The file": numbers in groups of seven bits, the least significant group first.
+-- Document 01, "The file": numbers in groups of seven bits, the least significant group first, as they are read and written.
 -- Assumes nothing.
 use Prim.Native.Nat.{ℕ, zero, suc, _+_, _*_, _/_, _%_}
 use mathlib.Core.Bool.{cond, _||_, _&&_}

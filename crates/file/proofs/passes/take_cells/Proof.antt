@@ -21,27 +21,6 @@ abbrev μ-loop : tie.MeasureT-loop
 loop-holds : tie.Need-loop-holds Inv-loop μ-loop
 loop-holds c = (omega arith, refl, rw sub-zero)
 
-role-at-requires : tie.Need-role-at-requires Inv-loop μ-loop
-role-at-requires c κs = search needs
-
-taken-cell-requires : tie.Need-taken-cell-requires Inv-loop μ-loop
-taken-cell-requires c κs = search needs
-
-mul-table : tie.Need-mul-table Inv-loop μ-loop
-mul-table c = omega arith
-
-slice-write-table : tie.Need-slice-write-table Inv-loop μ-loop
-slice-write-table c = omega arith
-
-kind-after-requires : tie.Need-kind-after-requires Inv-loop μ-loop
-kind-after-requires c κs = search needs
-
-add-i : tie.Need-add-i Inv-loop μ-loop
-add-i c = omega arith
-
-loop-less : tie.Need-loop-less Inv-loop μ-loop
-loop-less c = omega arith
-
 loop-again : tie.Need-loop-again Inv-loop μ-loop
 loop-again c = (omega arith, simp length-set (c .before .before .before .before .loop .inv .1), c .before .before .before .before .loop .inv .2 ∙ taken-more _ _ _ _ _ _ _ _ _ (c .before .before .before .loop-test .taken) (c .before .before .role-at .ensures) (c .before .taken-cell .ensures) (c .kind-after .ensures))
 
@@ -58,13 +37,13 @@ take-cells-spec =
     Inv-loop
     μ-loop
     loop-holds
-    role-at-requires
-    taken-cell-requires
-    mul-table
-    slice-write-table
-    kind-after-requires
-    add-i
-    loop-less
+    (λ c κs. search needs)
+    (λ c κs. search needs)
+    (λ c. omega arith)
+    (λ c. omega arith)
+    (λ c κs. search needs)
+    (λ c. omega arith)
+    (λ c. omega arith)
     loop-again
     same-length
     returns)
