@@ -1,4 +1,6 @@
 // One step, a run, a campaign.
+#![tactic(auto)]
+
 mod campaigns;
 mod machine;
 mod operators;

@@ -1,4 +1,6 @@
 // What a program needs around the desk: buffers, and its arguments in cells. What they are is the operating system's to say.
+#![tactic(auto)]
+
 ghost use Rattle.std.specs.Prelude.{◌≤◌, ◌≡◌, length, replicate};
 
 // Room for the bytes of a file that decide.

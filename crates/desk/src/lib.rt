@@ -1,4 +1,6 @@
 // What the programs do between their arguments and standard input and what they print.
+#![tactic(auto)]
+
 mod arguments;
 mod files;
 mod graphs;

@@ -1,4 +1,6 @@
 // The file: reading a graph from bytes into a lent table, and writing one from a table into lent bytes.
+#![tactic(auto)]
+
 mod numbers; // numbers.rt: one number by its role
 mod passes; // passes.rt: the checks of a file, and the words that are taken after them
 mod walk; // walk.rt: the bytes of a graph, written in one walk over its words

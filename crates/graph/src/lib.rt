@@ -1,4 +1,6 @@
 // The table: limits, kinds and the roles of their words, successors, and the checks of a runnable and of a source graph.
+#![tactic(auto)]
+
 ghost use Rattle.std.specs.Prelude.{◌≡◌};
 ghost use Rattle.graph.specs.Limits.{runnable, source};
 ghost use Rattle.graph.specs.Checks.{check_of, runnable_check, source_check};

@@ -1,4 +1,6 @@
 // Leaders, ranks, signatures, and the hardened table.
+#![tactic(auto)]
+
 ghost use Rattle.std.specs.Prelude.{◌≡◌, length};
 ghost use Rattle.harden.specs.Hardened.{hardening_of, harden_answer, harden_output};
 

@@ -1,5 +1,7 @@
 // Reads a graph's file on standard input and puts the file of the hardened graph on standard output, or of the graph as it was
 // read; a refusal's line goes to standard error.
+#![tactic(auto)]
+
 ghost use Rattle.std.specs.Prelude.{◌≡◌, ◌≤◌, length};
 ghost use Rattle.desk.specs.Programs.{size_of, print_of, file_program, text_bytes};
 

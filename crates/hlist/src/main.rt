@@ -1,4 +1,6 @@
 // Reads a source graph's file on standard input and prints the hardened graph, or the refusal.
+#![tactic(auto)]
+
 ghost use Rattle.std.specs.Prelude.{◌≤◌, ◌≡◌, length, take};
 ghost use Rattle.desk.specs.Programs.{list_text, text_bytes};
 

@@ -1,4 +1,6 @@
 // Runs a graph on standard input once, undisturbed or with one branch inverted, and prints how it ended.
+#![tactic(auto)]
+
 ghost use Rattle.std.specs.Prelude.{◌≤◌, ◌≡◌, length};
 ghost use Rattle.desk.specs.Programs.{size_of, print_of, run_program, text_bytes};
 

@@ -1,4 +1,6 @@
 // Scores a graph on standard input: prints the line of the release record.
+#![tactic(auto)]
+
 ghost use Rattle.std.specs.Prelude.{◌≤◌, ◌≡◌, length};
 ghost use Rattle.desk.specs.Programs.{size_of, print_of, score_program, text_bytes};
 

@@ -1,4 +1,6 @@
 // Decimal numbers as text, and text written upward into a lent buffer.
+#![tactic(auto)]
+
 ghost use Rattle.std.specs.Prelude.{◌≡◌, [], ◌∷◌};
 ghost use Rattle.text.specs.Decimals.{decimal, digits_in, decimal_of, value_of};
 ghost use Rattle.text.specs.Decimals.{spaced as spaced_text};

@@ -1,4 +1,6 @@
 // What hardly ever changes: numbers in groups of seven bits, upward writes into a buffer, total reads.
+#![tactic(auto)]
+
 mod groups; // groups.rt: the bytes of one number
 
 ghost use Rattle.std.specs.Prelude.{◌≡◌, length, get_or};

@@ -1,4 +1,6 @@
 // The entry points that a program in another language compares and times. Each hands out one number of the answer at a call.
+#![tactic(auto)]
+
 mod parts; // parts.rt: the numbers of an answer
 
 ghost use Rattle.std.specs.Prelude.{◌≡◌, length, get_or};
