@@ -13,14 +13,14 @@ mod table;
 pub use kinds::{fault, role_at, targets};
 
 // What a check of a graph answers: accepted, or the refusal's number and place.
-#[derive(Drop)]
+#[derive(Clone, Copy)]
 pub enum Check {
     Accepted,
     Refused(u32, usize),
 }
 
 // What a word of a node stands for.
-#[derive(Drop)]
+#[derive(Clone, Copy)]
 pub enum Role {
     Kind,
     Operator,
@@ -33,7 +33,7 @@ pub enum Role {
 }
 
 // Where the edges of a node lead, the first target first.
-#[derive(Drop)]
+#[derive(Clone, Copy)]
 pub enum Successors {
     None,
     One(usize),
@@ -41,7 +41,7 @@ pub enum Successors {
 }
 
 // How large a graph may be, and its last kind.
-#[derive(Drop)]
+#[derive(Clone, Copy)]
 pub struct Limits {
     pub registers: usize,
     pub nodes: usize,
@@ -83,7 +83,7 @@ impl Limits {
 }
 
 // A graph's R, N and entry.
-#[derive(Drop)]
+#[derive(Clone, Copy)]
 pub struct Header {
     pub registers: usize,
     pub nodes: usize,

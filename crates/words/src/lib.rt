@@ -8,7 +8,7 @@ ghost use Rattle.words.specs.Buffer.{put};
 ghost use Rattle.words.specs.Number.{reading_of, number_at, number_of};
 
 // A number read from bytes: its value and the position after it, or the refusal's number and place.
-#[derive(Drop)]
+#[derive(Clone, Copy)]
 pub enum Number {
     Value(u32, usize),
     Refused(u32, usize),
