@@ -15,7 +15,7 @@ pub use machine::run;
 const MOST_STEPS: usize = 100000;
 
 // The machine's state: its registers, the node to execute next, and what has been counted so far.
-#[derive(Drop)]
+#[derive(Clone, Copy)]
 pub struct State {
     pub registers: [u32; 64],
     pub node: usize,
@@ -25,7 +25,7 @@ pub struct State {
 }
 
 // How a run ends.
-#[derive(Drop)]
+#[derive(Clone, Copy)]
 pub enum Outcome {
     Returned(u32),
     Caught,
@@ -34,21 +34,21 @@ pub enum Outcome {
 }
 
 // The one branch that goes to its other target, by its place, from 0, among the branches executed.
-#[derive(Drop)]
+#[derive(Clone, Copy)]
 pub enum Fault {
     Undisturbed,
     Inverted(usize),
 }
 
 // Whether a run was made, and how it ended, or the refusal's number and place.
-#[derive(Drop)]
+#[derive(Clone, Copy)]
 pub enum Verdict {
     Ran(Outcome),
     Refused(u32, usize),
 }
 
 // A run's answer: the verdict, and beside it the last state and the number of events, all 0 on a refusal.
-#[derive(Drop)]
+#[derive(Clone, Copy)]
 pub struct RunAnswer {
     pub verdict: Verdict,
     pub state: State,
@@ -56,7 +56,7 @@ pub struct RunAnswer {
 }
 
 // The line of the release record: the positions tried, and how many fell into each class.
-#[derive(Drop)]
+#[derive(Clone, Copy)]
 pub struct Score {
     pub positions: usize,
     pub caught: usize,
@@ -67,7 +67,7 @@ pub struct Score {
 }
 
 // What a campaign answers: the score, or the refusal's number and place.
-#[derive(Drop)]
+#[derive(Clone, Copy)]
 pub enum CampaignAnswer {
     Scored(Score),
     Refused(u32, usize),

@@ -13,7 +13,7 @@ use crate::steps::{Sequel, effect_at};
 use crate::{Outcome, Score, State, scores};
 
 // What was made: how the last run ended, its last state, how many words of events it made, and the score of the others.
-#[derive(Drop)]
+#[derive(Clone, Copy)]
 pub struct Made {
     pub outcome: Outcome,
     pub state: State,
@@ -22,7 +22,7 @@ pub struct Made {
 }
 
 // Whether a run goes on.
-#[derive(Drop)]
+#[derive(Clone, Copy)]
 pub enum Ending {
     Not,
     With(Outcome),

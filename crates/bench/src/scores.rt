@@ -6,7 +6,7 @@ ghost use Rattle.bench.specs.Classes.{Few, class_by, class_for};
 use crate::{Outcome, Score};
 
 // What a disturbed run is counted as.
-#[derive(Drop)]
+#[derive(Clone, Copy)]
 pub enum Class {
     Caught,
     Late,
@@ -16,7 +16,7 @@ pub enum Class {
 }
 
 // The reference's value, and how many words of events it made.
-#[derive(Drop)]
+#[derive(Clone, Copy)]
 pub struct Reference {
     pub value: u32,
     pub words: usize,

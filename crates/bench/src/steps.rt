@@ -8,7 +8,7 @@ ghost use Rattle.bench.specs.Effects.{effect_of, keeps, sets, branches, row_at, 
 use crate::operators;
 
 // What follows a step: the run goes on, goes on after an event from a port, or ends.
-#[derive(Drop)]
+#[derive(Clone, Copy)]
 pub enum Sequel {
     On,
     Event(u32),
@@ -17,7 +17,7 @@ pub enum Sequel {
 }
 
 // What a step does to the machine's state: a register takes a value (often the one it has), and some counts grow.
-#[derive(Drop)]
+#[derive(Clone, Copy)]
 pub struct Effect {
     pub register: usize,
     pub value: u32,
@@ -35,7 +35,7 @@ fn flip(inverted: bool, outcome: bool) -> bool
 }
 
 // The six words of a node.
-#[derive(Drop)]
+#[derive(Clone, Copy)]
 pub struct Row {
     pub kind: u32,
     pub v: u32,

@@ -17,7 +17,7 @@ use bench::Fault;
 use loading::Loaded;
 
 // A program's first argument: the graph as it is read, or hardened first.
-#[derive(Drop)]
+#[derive(Clone, Copy)]
 pub enum Mode {
     Plain,
     Hardened,
@@ -25,7 +25,7 @@ pub enum Mode {
 }
 
 // What was wanted in the place of an argument; two hold the argument's number, from 1.
-#[derive(Drop)]
+#[derive(Clone, Copy)]
 pub enum Wanted {
     Mode,
     Budget,
@@ -38,35 +38,35 @@ pub enum Wanted {
 }
 
 // The first three arguments: whether to harden, the budget, the event room.
-#[derive(Drop)]
+#[derive(Clone, Copy)]
 pub enum Settings {
     Ready(bool, usize, usize),
     Wrong(Wanted),
 }
 
 // The argument of `hfile`: whether to harden.
-#[derive(Drop)]
+#[derive(Clone, Copy)]
 pub enum FileMode {
     Ready(bool),
     Wrong(Wanted),
 }
 
 // A fault that an argument names.
-#[derive(Drop)]
+#[derive(Clone, Copy)]
 pub enum Choice {
     Chosen(Fault),
     Other,
 }
 
 // How many words the last arguments are.
-#[derive(Drop)]
+#[derive(Clone, Copy)]
 pub enum Words {
     All(usize),
     Bad(Wanted),
 }
 
 // How much of the text is to be printed, and whether it is the output or a complaint.
-#[derive(Drop)]
+#[derive(Clone, Copy)]
 pub enum Printed {
     Output(usize),
     Complaint(usize),

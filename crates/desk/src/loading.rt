@@ -8,7 +8,7 @@ use graph::Header;
 use harden::Hardening;
 
 // What loading answers: the graph's R, N and entry, or the refusal's number and place.
-#[derive(Drop)]
+#[derive(Clone, Copy)]
 pub enum Loaded {
     Graph(Header),
     Refused(u32, usize),

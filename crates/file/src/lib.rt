@@ -13,21 +13,21 @@ use graph::{Check, Header};
 use words::Number;
 
 // What reading answers: the graph's R, N and entry, or the refusal's number and place.
-#[derive(Drop)]
+#[derive(Clone, Copy)]
 pub enum Verdict {
     Graph(Header),
     Refused(u32, usize),
 }
 
 // What writing answers: how many bytes the file has, or the refusal's number and place.
-#[derive(Drop)]
+#[derive(Clone, Copy)]
 pub enum Writing {
     Written(usize),
     Refused(u32, usize),
 }
 
 // A number of a file that was checked, and the position after it.
-#[derive(Drop)]
+#[derive(Clone, Copy)]
 pub struct Taken {
     pub value: u32,
     pub next: usize,

@@ -13,7 +13,7 @@ mod whole;
 mod writing;
 
 // What hardening answers: the hardened graph's R, N and entry, or the refusal's number and place.
-#[derive(Drop)]
+#[derive(Clone, Copy)]
 pub enum Hardening {
     Hardened(Header),
     Refused(u32, usize),

@@ -7,7 +7,7 @@ ghost use Rattle.text.specs.Decimals.{spaced as spaced_text};
 ghost use Rattle.text.specs.Places.{Wrote, place_after};
 
 // A text read as a decimal number.
-#[derive(Drop)]
+#[derive(Clone, Copy)]
 pub enum Decimal {
     Value(u32),
     Other,
