@@ -1,13 +1,9 @@
 -- `file::passes::check_cells` meets its contract. The loop's invariant: the words from the first on end, or are refused,
 -- as the words from i on. Assumes nothing.
-use mathlib.Core.Path.{◌≡◌, sym, ◌∙◌}
+use mathlib.Core.Path.{◌≡◌}
 use Prim.Native.Nat.{◌-◌, ◌≤◌}
-use native.Mathlib.Nat.{sub-zero}
-use native.Mathlib.Omega.{arith}
-use borrow.Author.Rules.{rules}
 use Rattle.file.specs.Reading.{cells_from}
 use Rattle.file.specs.Passes.{end_of}
-use Rattle.file.proofs.Walks.{cells_refused, cells_value, cells_none}
 use Rattle.file.proofs.passes.check_cells.Given as goal
 
 abbrev pub invariant-loop-i : goal.invariant-loop-i

@@ -1,14 +1,10 @@
 -- `file::passes::take_cells` meets its contract. The loop's invariant: the words from the first on, put into the table
 -- that was lent, are the words from i on put into the table as it is. Assumes nothing.
-use mathlib.Core.Path.{◌≡◌, refl, sym, ◌∙◌}
+use mathlib.Core.Path.{◌≡◌}
 use Prim.Native.Nat.{◌-◌, ◌≤◌}
-use native.Mathlib.Nat.{sub-zero}
-use native.Mathlib.Omega.{arith}
-use borrow.Author.Rules.{rules}
-use lib.ListN.{length, length-set}
+use lib.ListN.{length}
 use Rattle.words.specs.Buffer.{put}
 use Rattle.file.specs.Passes.{taken_from}
-use Rattle.file.proofs.Walks.{taken_more, taken_none}
 use Rattle.file.proofs.passes.take_cells.Given as goal
 
 abbrev pub invariant-loop-i : goal.invariant-loop-i

@@ -1,9 +1,7 @@
 -- `file::walk::put_cells` meets its contract: the loop's invariant is what `Walking` says. Assumes nothing.
 use Prim.Native.Nat.{◌-◌}
-use native.Mathlib.Omega.{arith}
-use borrow.Author.Rules.{rules}
 use lib.ListN.{length}
-use Rattle.file.proofs.Writes.{Walking, walk_first, walk_short, walk_more, walk_size, walk_bytes}
+use Rattle.file.proofs.Writes.{Walking}
 use Rattle.file.proofs.walk.put_cells.Given as goal
 
 abbrev pub invariant-loop-i : goal.invariant-loop-i
