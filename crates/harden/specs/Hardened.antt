@@ -90,8 +90,8 @@ unfoldable pub group_at : Source → ℕ → ℕ
 group_at s n = s.nodes + 2 + extra_below s n
 
 -- a source node's own row, and its group, e the first of its extra nodes
-abbrev pub field_own : Source → ℕ → ℕ → Node
-field_own s e n = own_row e (crossing s n) (s.graph n)
+abbrev pub own_at : Source → ℕ → ℕ → Node
+own_at s e n = own_row e (crossing s n) (s.graph n)
 
 abbrev pub group_from : Source → ℕ → ℕ → List Node
 group_from s e n = group_of s.registers (s.nodes + 1) e (sign s) (crossing s n) n (s.graph n)
@@ -99,7 +99,7 @@ group_from s e n = group_of s.registers (s.nodes + 1) e (sign s) (crossing s n) 
 -- the rows of the source nodes below n
 unfoldable pub source_rows : Source → ℕ → List Node
 source_rows s zero = []
-source_rows s (suc n) = source_rows s n ++ (field_own s (group_at s n) n ∷ [])
+source_rows s (suc n) = source_rows s n ++ (own_at s (group_at s n) n ∷ [])
 
 -- the groups of the source nodes below n
 unfoldable pub group_rows : Source → ℕ → List Node

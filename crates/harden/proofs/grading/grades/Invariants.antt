@@ -1,13 +1,9 @@
 -- `grading::grades` meets its contract. The invariant: the grades are those after the edges of the nodes passed. The measure is what is left of the nodes. Assumes nothing.
-use Prim.Native.Nat.{ℕ, ◌≤◌, ◌-◌}
-use native.Mathlib.Omega.{arith}
-use mathlib.Core.List.{List}
-use mathlib.Core.Path.{◌∙◌, ap, ◌≡◌}
+use Prim.Native.Nat.{◌≤◌, ◌-◌}
+use mathlib.Core.Path.{◌≡◌}
 use lib.ListN.{length, set}
-use borrow.Author.Rules.{rules}
 use Rattle.graph.specs.Nodes.{node_at}
 use Rattle.harden.specs.Passes.{zeros, grades_below}
-use Rattle.harden.proofs.Passes.{zeros-length, grades_more}
 use Rattle.harden.proofs.grading.grades.Given as goal
 
 abbrev pub invariant-loop-m : goal.invariant-loop-m

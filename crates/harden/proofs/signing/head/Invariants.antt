@@ -1,9 +1,6 @@
 -- `signing::head` meets its contract. The invariant: the head from the start is the head from here with the steps left, which are the measure. Assumes nothing.
-use native.Mathlib.Omega.{arith}
-use mathlib.Core.Path.{◌≡◌, refl, sym, ◌∙◌}
-use borrow.Author.Rules.{rules}
+use mathlib.Core.Path.{◌≡◌}
 use Rattle.harden.specs.Passes.{head_by}
-use Rattle.harden.proofs.Passes.{head_found, head_back}
 use Rattle.harden.proofs.signing.head.Given as goal
 
 abbrev pub invariant-loop-left : goal.invariant-loop-left

@@ -1,11 +1,8 @@
 -- `signing::leading` meets its contract. The invariant: the rank counts the leaders passed, and the list is filled so far. The measure is what is left of the nodes. Assumes nothing.
 use Prim.Native.Nat.{◌≤◌, ◌-◌}
-use native.Mathlib.Omega.{arith}
-use mathlib.Core.Path.{refl, ◌≡◌, ap, ◌∙◌}
-use borrow.Author.Rules.{rules}
+use mathlib.Core.Path.{◌≡◌}
 use Rattle.harden.specs.Blocks.{one_plus_rank}
 use Rattle.harden.specs.Passes.{zeros, filled, as_leader, leaders_below}
-use Rattle.harden.proofs.Passes.{filled_more, leaders_more, leaders_bound}
 use Rattle.harden.proofs.signing.leading.Given as goal
 
 abbrev pub invariant-loop-n : goal.invariant-loop-n

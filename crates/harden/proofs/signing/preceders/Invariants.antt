@@ -1,12 +1,9 @@
 -- `signing::preceders` meets its contract. The invariant: the predecessors are those after the nodes passed. The measure is what is left of the nodes. Assumes nothing.
 use Prim.Native.Nat.{◌≤◌, ◌-◌}
-use native.Mathlib.Omega.{arith}
-use mathlib.Core.Path.{◌≡◌, ap, ◌∙◌}
+use mathlib.Core.Path.{◌≡◌}
 use lib.ListN.{length}
-use borrow.Author.Rules.{rules}
 use Rattle.graph.specs.Nodes.{node_at}
 use Rattle.harden.specs.Passes.{zeros, preceders_below}
-use Rattle.harden.proofs.Passes.{zeros-length, preceders_more}
 use Rattle.harden.proofs.signing.preceders.Given as goal
 
 abbrev pub invariant-loop-m : goal.invariant-loop-m

@@ -1,11 +1,7 @@
 -- `signing::signatures` meets its contract. The invariant: the list is filled so far. The measure is what is left of the nodes. Assumes nothing.
-use Prim.Native.Nat.{ℕ, ◌≤◌, ◌-◌}
-use native.Mathlib.Omega.{arith}
-use mathlib.Core.Path.{◌≡◌, ap, ◌∙◌}
-use lib.ListN.{get_or}
-use borrow.Author.Rules.{rules}
+use Prim.Native.Nat.{◌≤◌, ◌-◌}
+use mathlib.Core.Path.{◌≡◌}
 use Rattle.harden.specs.Passes.{zeros, filled, as_block}
-use Rattle.harden.proofs.Passes.{filled_more}
 use Rattle.harden.proofs.signing.signatures.Given as goal
 
 abbrev pub invariant-loop-n : goal.invariant-loop-n

@@ -1,11 +1,8 @@
 -- `whole::count` meets its contract. The invariant: e is the first extra node of the next group. The measure is what is left of the nodes. Assumes nothing.
 use Prim.Native.Nat.{◌≤◌, ◌-◌}
-use native.Mathlib.Omega.{arith}
-use mathlib.Core.Path.{◌≡◌, ap, ◌∙◌}
-use borrow.Author.Rules.{rules}
-use Rattle.harden.specs.Hardened.{group_at, hardened_count, source_of}
+use mathlib.Core.Path.{◌≡◌}
+use Rattle.harden.specs.Hardened.{group_at}
 use Rattle.harden.specs.Passes.{source_in}
-use Rattle.harden.proofs.Turns.{extra_small, group-start, group-next, group_in}
 use Rattle.harden.proofs.whole.count.Given as goal
 
 abbrev pub invariant-loop-n : goal.invariant-loop-n

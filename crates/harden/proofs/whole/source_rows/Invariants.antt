@@ -1,12 +1,9 @@
 -- `whole::source_rows` meets its contract. The invariant: the rows of the nodes passed are written, and e is the first extra node of the next group. The measure is what is left of the nodes. Assumes nothing.
 use Prim.Native.Nat.{◌≤◌, ◌-◌}
-use native.Mathlib.Omega.{arith}
-use mathlib.Core.Path.{◌≡◌, refl, ◌∙◌}
+use mathlib.Core.Path.{◌≡◌}
 use lib.ListN.{length}
-use borrow.Author.Rules.{rules}
 use Rattle.harden.specs.Hardened.{group_at, source_rows}
 use Rattle.harden.specs.Passes.{source_in, put_rows}
-use Rattle.harden.proofs.Turns.{extra_small, group-start, group-next, group_in, source-start, source-next}
 use Rattle.harden.proofs.whole.source_rows.Given as goal
 
 abbrev pub invariant-loop-n : goal.invariant-loop-n
