@@ -1,9 +1,7 @@
 -- From a checked table to a campaign: the trial run decides on refusal 13, and what the walk scores is what a campaign answers.
 -- Assumes nothing.
-use Rattle.std.proofs.Common.{◌≡◌, ℕ, ◌<◌, ◌≤◌, ◌⊎◌, List, [], ◌∷◌, length, take, replicate, sym, refl, ap, ◌∙◌, ⊎_elim, arith, eq-eqb, ne_eqb, le-leb}
+use Rattle.std.proofs.Common.{◌≡◌, ℕ, ◌<◌, ◌≤◌, List, length, take, replicate, sym, refl, ap, ◌∙◌, arith, eq-eqb, ne_eqb, le-leb}
 use borrow.Author.Tests.{lt-leb}
-use denote.Enum.Declared.{tag_of}
-use types.Run.{OneOf}
 use lib.ListN.{length-replicate}
 use Rattle.words.specs.Answer.{Answer, given, refused, written}
 use Rattle.words.specs.Buffer.{over, put}
@@ -13,7 +11,6 @@ use Rattle.bench.specs.Steps.{Machine, Setting, Progress}
 use Rattle.bench.specs.Runs.{run_of, settled, most_steps}
 use Rattle.bench.specs.Ready.{End, Ends, setting_of, ended_of}
 use Rattle.bench.specs.Campaigns.{campaign_of, score_below, score_of, score_answer, campaign_answer, campaign_first, campaign_second}
-use Rattle.bench.specs.contracts.Outcome.{the_type}
 use Rattle.bench.proofs.Bounds.{within}
 use Rattle.bench.proofs.Faults.{as_placed}
 use Rattle.bench.specs.Classes.{Referred, Tried, Asked, Reported}
@@ -27,9 +24,8 @@ use Rattle.bench.specs.declared.Outcome.TheVariants.{Returned, Caught, Spent, Fu
 use Rattle.bench.specs.declared.Score.{Score}
 
 -- a run that ended in any other way than with a value
-no_value : (s : Setting) (entry budget : ℕ) (m : Machine) (o : Outcome) → OneOf (1 ∷ 2 ∷ 3 ∷ []) (tag_of the_type o) → score_of s entry budget m o ≡ refused 13 0
-no_value s entry budget m (Returned v) h =
-    absurd (⊎_elim (λ e. omega arith) (λ h. ⊎_elim (λ e. omega arith) (λ e. omega arith) h) h)
+no_value : (s : Setting) (entry budget : ℕ) (m : Machine) (o : Outcome) → ((v : ℕ) → o ≡ Returned v → ⊥) → score_of s entry budget m o ≡ refused 13 0
+no_value s entry budget m (Returned v) h = absurd (h v refl)
 no_value s entry budget m Caught h = refl
 no_value s entry budget m Spent h = refl
 no_value s entry budget m Full h = refl
@@ -58,11 +54,11 @@ module _ (table inputs first second : List ℕ) (entry budget : ℕ) where
       (n, ends.1 ∙ ap (λ (l : List ℕ). put l 0 trial.machine.events) is, ap (λ (r : End). r.words) ends.0)
 
   -- a trial run that does not return
-  pub scored_none : (made : End) → made ≡ ended_of trial → OneOf (1 ∷ 2 ∷ 3 ∷ []) (tag_of the_type made.outcome)
+  pub scored_none : (made : End) → made ≡ ended_of trial → ((v : ℕ) → made.outcome ≡ Returned v → ⊥)
       → Reported table inputs first second entry budget (Refused 13 0) first second
   scored_none made tries other =
       let ends : made.outcome ≡ settled run.status = ap (λ (r : End). r.outcome) (tries ∙ ap ended_of undisturbed) in
-      reports (Refused 13 0) (no_value s entry budget run.machine (settled run.status) (rw ends at other))
+      reports (Refused 13 0) (no_value s entry budget run.machine (settled run.status) (λ v e. other v (ends ∙ e)))
 
   module _ (made : End) (tries : made ≡ ended_of trial) (last : List ℕ) (wrote : last ≡ put first 0 trial.machine.events) (same : length first ≡ length second) where
     events : last ≡ put first 0 run.machine.events

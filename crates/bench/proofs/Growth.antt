@@ -1,6 +1,6 @@
 -- A run never takes back an event or the count of a branch.
 -- Assumes nothing.
-use Rattle.std.proofs.Common.{◌≡◌, ℕ, zero, suc, ◌+◌, ◌≤◌, Bool, true, false, List, [], ◌++◌, length, sym, refl, ap, ◌∙◌, subst, append_assoc, append-nil, arith}
+use Rattle.std.proofs.Common.{◌≡◌, ℕ, zero, suc, ◌≤◌, Bool, true, false, List, [], ◌++◌, length, sym, refl, ap, ◌∙◌, subst, append_assoc, append-nil, arith}
 use Rattle.bench.specs.Steps.{Machine, Setting, Status, going, ended, Progress}
 use Rattle.bench.specs.Effects.{effect_from, event_words, has_room}
 use Rattle.bench.specs.Runs.{next_of, next, after, state_of}

@@ -1,8 +1,8 @@
 -- The events of a run are pairs of words.
 -- Assumes nothing.
-use Rattle.std.proofs.Common.{◌≡◌, ℕ, zero, suc, ◌+◌, ◌*◌, ◌/◌, Bool, true, false, List, [], ◌∷◌, ◌++◌, length, sym, refl, subst, arith, length-append}
+use Rattle.std.proofs.Common.{◌≡◌, ℕ, zero, suc, ◌+◌, ◌*◌, Bool, true, false, List, ◌++◌, length, sym, refl, subst, arith, length-append}
 use Rattle.bench.specs.Steps.{Machine, Setting, Status, going, ended, Progress, at, start}
-use Rattle.bench.specs.Effects.{effect_from, event_words, has_room, machine_of}
+use Rattle.bench.specs.Effects.{effect_from, event_words, has_room}
 use Rattle.bench.specs.Runs.{next_of, next, after, run_of, state_of}
 use Rattle.bench.proofs.Effects.{followed, step_effect}
 use Rattle.bench.specs.declared.Fault.{Fault}

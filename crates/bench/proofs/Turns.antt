@@ -1,9 +1,9 @@
 -- One turn of a run: what a loop that applies effects in place knows before and after it, and how the run stands where it ends.
 -- Assumes nothing.
-use Rattle.std.proofs.Common.{◌≡◌, ℕ, ◌+◌, ◌-◌, ◌<◌, ◌≤◌, Bool, true, false, cond, List, ◌++◌, length, get_or, take, drop, sym, refl, ap, ◌∙◌, arith, length-append, length-set, take-append-drop, length-take-le}
+use Rattle.std.proofs.Common.{◌≡◌, ℕ, ◌+◌, ◌<◌, ◌≤◌, Bool, true, false, cond, List, ◌++◌, length, get_or, take, drop, sym, refl, ap, ◌∙◌, arith, length-append, length-set, take-append-drop, length-take-le}
 use Rattle.words.specs.Buffer.{put, over}
 use Rattle.words.proofs.Puts.{put-at, put-over, length-put}
-use Rattle.graph.specs.Nodes.{Node, go, branch, ret, stop, const, op, input, output, register, node_at}
+use Rattle.graph.specs.Nodes.{Node, go, branch, ret, stop, const, op, input, output, node_at}
 use Rattle.graph.specs.Accepted.{NodeIn}
 use Rattle.bench.specs.Words.{compare}
 use Rattle.bench.specs.Steps.{Setting, Status, going, ended, Progress, at, inverts, flip}

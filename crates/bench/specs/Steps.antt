@@ -1,6 +1,6 @@
 -- Document 01, "Running and scoring": one step of a run on a decoded node.
 -- Assumes nothing.
-use Rattle.std.specs.Prelude.{ℕ, ◌+◌, Bool, true, false, cond, not, List, [], ◌∷◌, ◌++◌, length, set, replicate, ◌==◌, nat_le, slice_index, slice_set}
+use Rattle.std.specs.Prelude.{ℕ, ◌+◌, Bool, true, false, cond, not, List, [], ◌∷◌, ◌++◌, length, replicate, ◌==◌, nat_le, slice_index, slice_set}
 use Rattle.std.proofs.Math.Option.{Option, none, some}
 use Rattle.graph.specs.Nodes.{Node, go, branch, ret, stop, Action, const, op, input, output, Operand, register, constant}
 use Rattle.bench.specs.Words.{operate, compare}

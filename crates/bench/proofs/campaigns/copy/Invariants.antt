@@ -1,7 +1,6 @@
 -- `bench::campaigns::copy` meets its contract: the words before `i` are copied. Assumes nothing.
-use Rattle.std.proofs.Common.{◌≡◌, ℕ, ◌+◌, ◌-◌, ◌<◌, ◌≤◌, List, [], ◌∷◌, length, get_or, take, set, sym, ap, ◌∙◌, add-one, arith, length-take-le, take-suc, rules}
+use Rattle.std.proofs.Common.{◌≡◌, ◌-◌, ◌≤◌, take}
 use Rattle.words.specs.Buffer.{put}
-use Rattle.words.proofs.Puts.{put_nil, put_one, put-at, length-put}
 use Rattle.bench.proofs.campaigns.copy.Given as goal
 
 abbrev pub invariant-loop-i : goal.invariant-loop-i

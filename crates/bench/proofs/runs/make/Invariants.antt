@@ -1,17 +1,9 @@
 -- `bench::runs::make` meets its contract. At the head of the inner loop the state is that of the run with the branch at the place inverted,
 -- after as many rounds as steps were made, and what was set aside is the undisturbed run before that branch, once it is passed. At the
 -- head of the outer loop the places below are scored. Assumes nothing.
-use Rattle.std.proofs.Common.{◌≡◌, ◌+◌, ◌-◌, ◌^◌, ◌<◌, ◌≤◌, true, false, ◌⊎◌, length, take, sym, refl, ap, ◌∙◌, inl, inr, ⊎_elim, arith, rules}
-use borrow.Author.Tests.{not-true, not-false}
-use Rattle.words.proofs.Puts.{length-put}
-use Rattle.bench.specs.Steps.{start}
-use Rattle.bench.specs.Effects.{has_room}
-use Rattle.bench.specs.Ready.{setting_of, status_of}
-use Rattle.bench.specs.Campaigns.{score_below}
+use Rattle.std.proofs.Common.{◌≡◌, ◌-◌, ◌<◌, ◌≤◌, length}
 use Rattle.bench.specs.declared.Outcome.TheVariants.{Spent}
-use Rattle.bench.proofs.Tallies.{score_few}
-use Rattle.bench.proofs.Turns.{Small}
-use Rattle.bench.proofs.Asides.{Standing, Aside, Finished, Forked, Stage, at-start, spent, small_here, full, on, ends, aside_on, forked, stage_first, makes, so_far, stage_next}
+use Rattle.bench.proofs.Asides.{Standing, Aside, Stage}
 use Rattle.bench.proofs.runs.make.Given as goal
 
 abbrev pub invariant-loop-state-2 : goal.invariant-loop-state-2

@@ -1,7 +1,6 @@
 -- `bench::scores::agrees` meets its contract: up to `i` the words agree. Assumes nothing.
-use Rattle.std.proofs.Common.{◌≡◌, ◌-◌, take, drop, sym, refl, ◌∙◌, arith, rules}
+use Rattle.std.proofs.Common.{◌≡◌, ◌-◌, take, drop}
 use Rattle.bench.specs.Campaigns.{prefix_of}
-use Rattle.bench.proofs.Prefixes.{words_long, words_none, words_more, words_other}
 use Rattle.bench.proofs.scores.agrees.Given as goal
 
 abbrev pub invariant-loop-i : goal.invariant-loop-i

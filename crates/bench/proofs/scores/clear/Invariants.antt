@@ -1,6 +1,5 @@
 -- `bench::scores::clear` meets its contract: the words before `i` are 0, the others as they were. Assumes nothing.
-use Rattle.std.proofs.Common.{◌≡◌, ℕ, ◌-◌, ◌<◌, ◌≤◌, List, ◌++◌, length, drop, set, replicate, refl, ap, ◌∙◌, append-nil, arith, length-set, drop_of_length-le, rules}
-use borrow.Author.Fill.{fill_none, fill_more}
+use Rattle.std.proofs.Common.{◌≡◌, ◌-◌, ◌≤◌, ◌++◌, length, drop, replicate}
 use Rattle.bench.proofs.scores.clear.Given as goal
 
 abbrev pub invariant-loop-i : goal.invariant-loop-i
