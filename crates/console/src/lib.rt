@@ -1,10 +1,10 @@
+// What a program needs around the desk: buffers, and its arguments in cells. What they are is the operating system's to say.
 #![tactic(auto)]
 
-// What a program needs around the desk: buffers, and its arguments in cells. What they are is the operating system's to say.
 ghost use Rattle.std.specs.Prelude.{◌≤◌, ◌≡◌, length, replicate};
 
 use std::env::FillError;
-use std::rt::{Env, HostRuntime};
+use std::rt::Env;
 
 // Room for the bytes of a file that decide.
 pub fn file_space() -> [u8; 32768]

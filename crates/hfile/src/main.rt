@@ -1,14 +1,14 @@
-#![tactic(auto)]
-
 // Reads a graph's file on standard input and puts the file of the hardened graph on standard output, or of the graph as it was
 // read; a refusal's line goes to standard error.
+#![tactic(auto)]
+
 ghost use Rattle.std.specs.Prelude.{◌≤◌, ◌≡◌, IfOk, length};
 ghost use Rattle.desk.specs.Programs.{size_of, print_of, file_program, text_bytes};
 
 use desk::Printed;
 use std::io;
 use std::io::Read;
-use std::rt::{HostRuntime, Stdin};
+use std::rt::Stdin;
 
 // The whole file for the arguments and a file's bytes: a text of this size holds every one.
 fn file(cells: &[u8], bytes: &[u8], text: &mut [u8]) -> Printed

@@ -1,12 +1,12 @@
+// Reads a source graph's file on standard input and prints the hardened graph, or the refusal.
 #![tactic(auto)]
 
-// Reads a source graph's file on standard input and prints the hardened graph, or the refusal.
 ghost use Rattle.std.specs.Prelude.{◌≤◌, ◌≡◌, IfOk, length, take};
 ghost use Rattle.desk.specs.Programs.{list_text, text_bytes};
 
 use std::io;
 use std::io::Read;
-use std::rt::{HostRuntime, Stdin};
+use std::rt::Stdin;
 
 // The whole text for a file's bytes: one of this size cuts nothing.
 fn list(bytes: &[u8], text: &mut [u8]) -> usize

@@ -1,13 +1,13 @@
+// Runs a graph on standard input once, undisturbed or with one branch inverted, and prints how it ended.
 #![tactic(auto)]
 
-// Runs a graph on standard input once, undisturbed or with one branch inverted, and prints how it ended.
 ghost use Rattle.std.specs.Prelude.{◌≤◌, ◌≡◌, IfOk, length};
 ghost use Rattle.desk.specs.Programs.{size_of, print_of, run_program, text_bytes};
 
 use desk::Printed;
 use std::io;
 use std::io::Read;
-use std::rt::{HostRuntime, Stdin};
+use std::rt::Stdin;
 
 // The whole text for the arguments and a file's bytes: one of this size cuts nothing.
 fn run(cells: &[u8], bytes: &[u8], text: &mut [u8]) -> Printed

@@ -1,13 +1,13 @@
+// Scores a graph on standard input: prints the line of the release record.
 #![tactic(auto)]
 
-// Scores a graph on standard input: prints the line of the release record.
 ghost use Rattle.std.specs.Prelude.{◌≤◌, ◌≡◌, IfOk, length};
 ghost use Rattle.desk.specs.Programs.{size_of, print_of, score_program, text_bytes};
 
 use desk::Printed;
 use std::io;
 use std::io::Read;
-use std::rt::{HostRuntime, Stdin};
+use std::rt::Stdin;
 
 // The whole text for the arguments and a file's bytes: one of this size cuts nothing.
 fn score(cells: &[u8], bytes: &[u8], text: &mut [u8]) -> Printed
