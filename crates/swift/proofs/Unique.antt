@@ -264,8 +264,14 @@ unique_console_text_space κs a o u p q = both (same p q) refl
 -- the operating system says what the arguments are, so their contract is only a bound: with one byte lent, 0 and 1 both keep it
 pub open_console_arguments : TwoAnswers console_says.arguments.ended console.arguments.Reads.Post
 open_console_arguments κs =
-    let lent : List ℕ = 0 ∷ [] in
-    ((record { ref_ptr = (0, 0); now = lent }, tt), (0, (lent, tt)), (1, (lent, tt)), omega arith, omega arith, λ e. omega (arith, e))
+    let lent : List ℕ = 0 ∷ [] in (
+      (record { ref_ptr = (0, 0); now = record { seal = tt } }, (record { ref_ptr = (0, 0); ghost_name = 0; now = lent }, tt)),
+      (0, (tt, (lent, tt))),
+      (1, (tt, (lent, tt))),
+      omega arith,
+      omega arith,
+      λ e. omega (arith, e),
+    )
 
 -- ---- yardstick
 
