@@ -15,9 +15,11 @@ listing-requires c =
 pub returns-in-Graph : goal.returns-in-Graph
 unfolding list_text
 returns-in-Graph c =
-    wrote_as (graph_text (graph_in true c.args.bytes.now) c.load-answer.result c.load-answer.new.table c.load-answer.ensures (λ g. listing g.header g.table) _ c.in-Graph.is) c.listing.ensures
+    wrote_as (graph_text (graph_in true c.args.bytes.now) c.load-answer.result c.load-answer.new.table c.load-answer.ensures
+    (λ g. listing g.header g.table) _ c.in-Graph.is) c.listing.ensures
 
 pub returns-in-Refused : goal.returns-in-Refused
 unfolding list_text
 returns-in-Refused c =
-    wrote_as (graph_refused (graph_in true c.args.bytes.now) c.load-answer.result c.load-answer.new.table c.load-answer.ensures (λ g. listing g.header g.table) _ _ c.in-Refused.is) c.refusal.ensures
+    wrote_as (graph_refused (graph_in true c.args.bytes.now) c.load-answer.result c.load-answer.new.table c.load-answer.ensures
+    (λ g. listing g.header g.table) _ _ c.in-Refused.is) c.refusal.ensures

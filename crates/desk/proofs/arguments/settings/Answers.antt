@@ -12,7 +12,11 @@ returns-in-Plain c =
 pub returns-in-Hardened : goal.returns-in-Hardened
 unfolding settings_of
 returns-in-Hardened c =
-    record { value = rw (sym c.argument.ensures, sym c.mode.ensures, c.in-Hardened.is) c.numbers-in-Hardened.ensures.value; room_in = c.numbers-in-Hardened.ensures.room_in }
+    record {
+      value = rw (sym c.argument.ensures, sym c.mode.ensures, c.in-Hardened.is) c.numbers-in-Hardened.ensures.value;
+      room_in =
+          c.numbers-in-Hardened.ensures.room_in;
+    }
 
 pub returns-in-Unknown : goal.returns-in-Unknown
 unfolding settings_of

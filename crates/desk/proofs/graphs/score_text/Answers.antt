@@ -10,4 +10,5 @@ returns-in-Scored c =
 
 pub returns-in-Refused : goal.returns-in-Refused
 returns-in-Refused c =
-    rw (sym (campaign_refused c.args.h c.args.table.now c.args.inputs.now _ _ _ _ c.requires c.campaign.ensures.result_value _ _ c.in-Refused.is)) c.refusal.ensures
+    rw (sym (campaign_refused c.args.h c.args.table.now c.args.inputs.now _ _ _ _ c.requires c.campaign.ensures.result_value _ _ c.in-Refused.is))
+    c.refusal.ensures
