@@ -1,17 +1,10 @@
 //! The proved entry points over files and tables, as Rust functions. A call hands out one number of
 //! the answer, by its place; `crates/yardstick/specs/Parts.antt` sets out which number stands where.
-//! The proved code is compiled for x86-64: there it is called directly, and elsewhere in a program
-//! that the toolchain's emulator runs.
+//! The proved code is compiled for x86-64, and linked on such a machine alone.
 
-#[cfg(target_arch = "x86_64")]
 mod direct;
-#[cfg(not(target_arch = "x86_64"))]
-mod emulated;
 
-#[cfg(target_arch = "x86_64")]
 pub use direct::{campaign, check_runnable, check_source, harden, read, run, write};
-#[cfg(not(target_arch = "x86_64"))]
-pub use emulated::{campaign, check_runnable, check_source, harden, read, run, write};
 
 /// What stands beside a table: R, N and the entry node. Any number may be given.
 #[derive(Clone, Copy, Debug, PartialEq, Eq)]

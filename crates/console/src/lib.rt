@@ -3,6 +3,9 @@
 
 ghost use Rattle.std.specs.Prelude.{◌≤◌, ◌≡◌, length, replicate};
 
+use std::env::FillError;
+use std::rt::Env;
+
 // Room for the bytes of a file that decide.
 pub fn file_space() -> [u8; 32768]
     ensures { result ≡ replicate 32768 0 }
@@ -26,27 +29,25 @@ pub fn text_space() -> [u8; 196608]
 
 // The arguments after the program's name, one to a cell of sixteen bytes: its length, then its text. An argument that is too
 // long for a cell is left empty. Answers how many bytes the cells take; what does not fit is left out.
-pub fn arguments(cells: &mut [u8]) -> usize
+pub fn arguments(rt: &HostRuntime, cells: &mut [u8]) -> usize
     ensures { result ≤ length cells.new }
 {
-    let count = least(os::arg_count(), cells.len() / 16 + 1);
+    let count = cells.len() / 16 + 1;
     let mut i = 1;
     let mut at = 0;
     while i < count {
         let text = at + 1;
         let end = at + 16;
-        let size = os::arg(i, &mut cells[text..end]);
+        let size = match rt.arg(i, &mut cells[text..end]) {
+            Ok(size) => size,
+            Err(FillError::TooLong) => 0,
+            Err(FillError::NotPresent) => return at,
+        };
         cells[at] = length_byte(size);
         at = end;
         i += 1;
     }
     at
-}
-
-fn least(a: usize, b: usize) -> usize
-    ensures { result ≤ b }
-{
-    if a < b { a } else { b }
 }
 
 fn length_byte(size: usize) -> u8 {

@@ -16,7 +16,7 @@ use Rattle.desk.specs.declared.Wanted.{Wanted}
 use Rattle.desk.specs.declared.Words.TheVariants.{All, Bad}
 use Rattle.text.specs.Decimals.{value_of}
 use Rattle.words.specs.Buffer.{put}
-use Rattle.words.proofs.Puts.{put_nil, put_one, put-at, length-put}
+use Rattle.words.proofs.Puts.{put_nil, put_one, put-at}
 
 module _ (cells : List ℕ) (i : ℕ) where
   pub cell_missing : length cells < 16 * i + 16 → [] ≡ argument cells i

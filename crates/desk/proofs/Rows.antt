@@ -1,11 +1,11 @@
 -- The ways through a listing: a node's line, the lines so far with one more, and the whole.
 -- Assumes nothing.
-use mathlib.Core.Path.{◌≡◌, refl, ap}
-use Prim.Native.Nat.{ℕ, zero, suc, ◌+◌, ◌-◌, ◌*◌}
+use mathlib.Core.Path.{◌≡◌}
+use Prim.Native.Nat.{ℕ, ◌+◌, ◌-◌, ◌*◌}
 use native.Mathlib.Numerals.{add-one}
 use native.Mathlib.Nat.{add-sub_cancel_left}
 use mathlib.Core.List.{List, [], ◌∷◌, ◌++◌}
-use lib.ListN.{length, take, drop}
+use lib.ListN.{take, drop}
 use Rattle.graph.specs.declared.Header.{Header}
 use Rattle.text.specs.Decimals.{decimal, spaced}
 use Rattle.text.specs.Places.{Wrote}

@@ -171,7 +171,7 @@ module _ (t : Trial) (ok : Accepted t.source) where
     unfolding crossing
     part c a then else b is w h =
         let inside : NodeIn R s.nodes (branch c a b then else) = rw is at (ok.in_order.node_in n here.inside) in
-        let from : BranchAt t n = record { here = here.inside; comparison = c; left = a; right = b; then = then; else = else; is_branch_lem = is } in
+        let from : BranchAt t n = record { here = here.inside; comparison = c; left = a; right = b; then = then; else = else; is_branch = is } in
         let row : hardened_graph t m.node ≡ branch c a b (group_at s n) (group_at s n + 1) = ap (hardened_graph t) here.node ∙ branch_row t ok from in
         let target : ℕ = cond w then else in
         let target< : target < s.nodes = elim w as (λ w. cond w then else < s.nodes) [ true ↦ inside.3 | false ↦ inside.4 ] in

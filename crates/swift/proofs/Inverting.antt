@@ -144,7 +144,7 @@ module _ (t : Trial) (ok : Accepted t.source) where
   group_apart {n} {k} b c e = omega (arith, by (dec_lt n k) (dec_lt k n))
     where
       wide : {j : ℕ} → BranchAt t j → extra_of s j ≡ 7
-      wide b = rw b.is_branch_lem
+      wide b = rw b.is_branch
 
       by : Dec (n < k) → Dec (k < n) → (k ≤ n) × (n ≤ k)
       by (yes l) d = absurd (omega (arith, group_order s n k l, wide b))
@@ -152,7 +152,7 @@ module _ (t : Trial) (ok : Accepted t.source) where
       by (no d) (no d') = (omega arith, omega arith)
 
   abbrev branch_of : {i : ℕ} (o : OneTarget s i) → BranchAt t o.node
-  branch_of o = record { here = o.inside; comparison = o.comparison; left = o.left; right = o.right; then = o.then; else = o.else; is_branch_lem = o.is_branch_lem }
+  branch_of o = record { here = o.inside; comparison = o.comparison; left = o.left; right = o.right; then = o.then; else = o.else; is_branch = o.is_branch }
 
   -- a node that makes a source branch's test compares a source register, and a check compares GSR
   no_test : (i n : ℕ) → hardened_graph t i ≡ check_for t n → OneTarget s i → ⊥
@@ -173,7 +173,7 @@ module _ (t : Trial) (ok : Accepted t.source) where
         same : sign_of t b.then ≡ sign_of t b.else → ⊥
         same e =
             let inside = branch_in t ok b in
-            let lead = targets_lead s n b.comparison b.left b.then b.else b.right b.here b.is_branch_lem in
+            let lead = targets_lead s n b.comparison b.left b.then b.else b.right b.here b.is_branch in
             other (sign_apart s ok.distinct ok.in_order.few_nodes b.then b.else inside.3 inside.4 lead.0 lead.1 e)
 
         by : (w : Bool) → sign_of t (side b (not w)) ≡ sign_of t (side b w) → ⊥
@@ -197,7 +197,7 @@ module _ (t : Trial) (ok : Accepted t.source) where
       right = b.right;
       then = b.then;
       else = b.else;
-      is_branch_lem = b.is_branch_lem;
+      is_branch = b.is_branch;
       one_node = cc;
     }
 
@@ -209,7 +209,7 @@ module _ (t : Trial) (ok : Accepted t.source) where
         k = o.node
 
         same : n ≡ k → b.then ≡ b.else
-        same e = cc (b.is_branch_lem, ap s.graph e, o.is_branch_lem, o.one_node)
+        same e = cc (b.is_branch, ap s.graph e, o.is_branch, o.one_node)
 
         by : (i ≡ n) ⊎ (i ≡ group_at s n + 2) → (i ≡ k) ⊎ (i ≡ group_at s k + 2) → b.then ≡ b.else
         by (inl e) (inl f) = same (sym e ∙ f)
@@ -350,7 +350,7 @@ module _ (t : Trial) (ok : Accepted t.source) where
           row = ap (hardened_graph t) a.node ∙ own_row_lem t σ.node a.inside
 
           by : (node : Node) → s.graph σ.node ≡ node → AnsweredAt m.node place rounds
-          by (branch c l r then else) is = at_first σ a (record { here = a.inside; comparison = c; left = l; right = r; then = then; else = else; is_branch_lem = is })
+          by (branch c l r then else) is = at_first σ a (record { here = a.inside; comparison = c; left = l; right = r; then = then; else = else; is_branch = is })
           by (go action next) is = no_branch _ row (rw is)
           by (ret v) is = no_branch _ row (rw is)
           by stop is = no_branch _ row (rw is)

@@ -93,7 +93,7 @@ pub record BranchAt (t : Trial) (n : ℕ) : Type 0 where
   pub right : Operand
   pub then : ℕ
   pub else : ℕ
-  pub is_branch_lem : t.source.graph n ≡ branch comparison left right then else
+  pub is_branch : t.source.graph n ≡ branch comparison left right then else
 
 -- its target for an outcome of the test
 abbrev pub side : {t : Trial} {n : ℕ} → BranchAt t n → Bool → ℕ

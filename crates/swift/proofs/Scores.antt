@@ -80,7 +80,7 @@ module _ (t : Trial) (ok : Accepted t.source) (budget value : ℕ) (returns : Re
     where
       by : Decided t place x.rounds → class place ≡ harmless
       by (inl (one, unchanged)) = harmless_where place x.rounds x.within x.executed unchanged
-      by (inr (two, soon_caught)) = absurd (two x.one_target_lem)
+      by (inr (two, soon_caught)) = absurd (two x.one_target)
 
   -- a position's class, by the branch at its place
   pub classes : (place : ℕ) → place < (hardened_run t Undisturbed budget).machine.branches
@@ -89,7 +89,7 @@ module _ (t : Trial) (ok : Accepted t.source) (budget value : ℕ) (returns : Re
     where
       by : (rounds : ℕ) → rounds < budget → AtBranch t place rounds → Decided t place rounds
           → ((class place ≡ harmless) × TestAt t place budget) ⊎ ((class place ≡ caught) × (TestAt t place budget → ⊥))
-      by rounds r< x (inl (one, unchanged)) = inl (harmless_where place rounds r< x unchanged, record { rounds = rounds; within = r<; executed = x; one_target_lem = one })
+      by rounds r< x (inl (one, unchanged)) = inl (harmless_where place rounds r< x unchanged, record { rounds = rounds; within = r<; executed = x; one_target = one })
       by rounds r< x (inr (two, soon_caught)) =
           let c : class place ≡ caught = caught_where place rounds r< x soon_caught in
           inr (c, λ test. let z : ◌≡◌ {A = ℕ} 0 1 = cc (test_harmless place test) in omega arith)

@@ -136,17 +136,17 @@ module _ (t : Trial) (ok : Accepted t.source) where
     e = group_at s n
 
     pub branch_in : NodeIn R s.nodes (branch b.comparison b.left b.right b.then b.else)
-    branch_in = rw b.is_branch_lem at (ok.in_order.node_in n b.here)
+    branch_in = rw b.is_branch at (ok.in_order.node_in n b.here)
 
     -- the branch's own row, and those of its group
     pub branch_row : hardened_graph t n ≡ branch b.comparison b.left b.right e (e + 1)
-    branch_row = own_row_lem t n b.here ∙ rw b.is_branch_lem
+    branch_row = own_row_lem t n b.here ∙ rw b.is_branch
 
     group_row : (j : ℕ) → j < 7
         → hardened_graph t (e + j) ≡ get_or (branch_group R (s.nodes + 1) e (sign_of t n) b.comparison b.left b.right b.then b.else (sign_of t b.then) (sign_of t b.else)) j stop
     group_row j h =
-        let inside : j < extra_of s n = rw b.is_branch_lem h in
-        rw b.is_branch_lem at (extra_row t n j b.here inside)
+        let inside : j < extra_of s n = rw b.is_branch h in
+        rw b.is_branch at (extra_row t n j b.here inside)
 
     pub prepare_row : (w : Bool) → hardened_graph t (e + cond w 0 1) ≡ prepare R (sign_of t n) (sign_of t (side b w)) (e + 2)
     prepare_row true = group_row 0 (omega arith)

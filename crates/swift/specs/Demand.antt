@@ -148,7 +148,7 @@ pub record OneTarget (s : Source) (i : ℕ) : Type 0 where
   pub right : Operand
   pub then : ℕ
   pub else : ℕ
-  pub is_branch_lem : s.graph node ≡ branch comparison left right then else
+  pub is_branch : s.graph node ≡ branch comparison left right then else
   pub one_node : then ≡ else
 
 -- the one exception: the branch after n steps is such a node

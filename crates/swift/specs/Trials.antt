@@ -113,7 +113,7 @@ pub record TestAt (t : Trial) (place budget : ℕ) : Type 0 where
   pub rounds : ℕ
   pub within : rounds < budget
   pub executed : AtBranch t place rounds
-  pub one_target_lem : OneTarget t.source (hardened_run t Undisturbed rounds).machine.node
+  pub one_target : OneTarget t.source (hardened_run t Undisturbed rounds).machine.node
 
 -- a score in which each position is caught or harmless
 pub record Covered (positions : ℕ) (score : Score) : Type 0 where

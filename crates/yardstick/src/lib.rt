@@ -13,8 +13,7 @@ ghost use Rattle.bench.specs.Campaigns.{campaign_answer, campaign_first, campaig
 ghost use Rattle.yardstick.specs.Parts.{check_numbers, size_numbers, graph_numbers, run_numbers, score_numbers, fault_of};
 
 // Reading a file: a number of the answer.
-#[unsafe(no_mangle)]
-pub extern "C" fn yardstick_read(bytes: &[u8], table: &mut [u32], part: usize) -> usize
+pub fn yardstick_read(bytes: &[u8], table: &mut [u32], part: usize) -> usize
     ensures value { result ≡ get_or (graph_numbers (read_answer bytes.now (length table.old))) part 0 }
     ensures table_after { table.new ≡ read_table bytes.now table.old }
 {
@@ -24,8 +23,7 @@ pub extern "C" fn yardstick_read(bytes: &[u8], table: &mut [u32], part: usize) -
 }
 
 // Writing a file: a number of the answer.
-#[unsafe(no_mangle)]
-pub extern "C" fn yardstick_write(
+pub fn yardstick_write(
     registers: usize,
     nodes: usize,
     entry: usize,
@@ -42,8 +40,7 @@ pub extern "C" fn yardstick_write(
 }
 
 // The check of a runnable graph: a number of the answer.
-#[unsafe(no_mangle)]
-pub extern "C" fn yardstick_check_runnable(
+pub fn yardstick_check_runnable(
     registers: usize,
     nodes: usize,
     entry: usize,
@@ -58,8 +55,7 @@ pub extern "C" fn yardstick_check_runnable(
 }
 
 // The check of a source graph: a number of the answer.
-#[unsafe(no_mangle)]
-pub extern "C" fn yardstick_check_source(
+pub fn yardstick_check_source(
     registers: usize,
     nodes: usize,
     entry: usize,
@@ -74,8 +70,7 @@ pub extern "C" fn yardstick_check_source(
 }
 
 // Hardening: a number of the answer.
-#[unsafe(no_mangle)]
-pub extern "C" fn yardstick_harden(
+pub fn yardstick_harden(
     registers: usize,
     nodes: usize,
     entry: usize,
@@ -92,8 +87,7 @@ pub extern "C" fn yardstick_harden(
 }
 
 // A run, undisturbed or with the branch at a place inverted: a number of the answer.
-#[unsafe(no_mangle)]
-pub extern "C" fn yardstick_run(
+pub fn yardstick_run(
     registers: usize,
     nodes: usize,
     entry: usize,
@@ -116,8 +110,7 @@ pub extern "C" fn yardstick_run(
 }
 
 // A campaign: a number of the answer.
-#[unsafe(no_mangle)]
-pub extern "C" fn yardstick_campaign(
+pub fn yardstick_campaign(
     registers: usize,
     nodes: usize,
     entry: usize,

@@ -4,4 +4,8 @@ use Rattle.file.proofs.read.Goals as goal
 
 pub returns-in-Refused : goal.returns-in-Refused
 returns-in-Refused c =
-    record { result_value = refused_answer _ c.args.table.now _ _ c.in-Refused.is c.check-answer.ensures; table_after = refused_table _ c.args.table.now _ _ c.in-Refused.is c.check-answer.ensures }
+    record {
+      result_value = refused_answer _ c.args.table.now _ _ c.in-Refused.is c.check-answer.ensures;
+      table_after = refused_table _
+          c.args.table.now _ _ c.in-Refused.is c.check-answer.ensures;
+    }

@@ -10,7 +10,8 @@ use Rattle.words.proofs.put_number.Given as goal
 
 abbrev pub invariant-loop-rest : goal.invariant-loop-rest
 invariant-loop-rest l =
-    Left l.value l.size l.rest × (length l.out ≡ length l.initial.out) × (put l.initial.out l.at (number_of l.value) ≡ put l.out (l.at + l.size) (shortest (4 - l.size) l.rest))
+    Left l.value l.size l.rest × (length l.out ≡ length l.initial.out) ×
+    (put l.initial.out l.at (number_of l.value) ≡ put l.out (l.at + l.size) (shortest (4 - l.size) l.rest))
 
 abbrev pub decreases-loop-rest : goal.decreases-loop-rest
 decreases-loop-rest l = l.rest

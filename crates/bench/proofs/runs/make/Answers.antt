@@ -1,4 +1,5 @@
--- `bench::runs::make` meets its contract: the inner loop makes the run with the branch at the place inverted and sets the undisturbed
+-- `bench::runs::make` meets its contract: the inner loop makes the run with the branch at the place inverted and sets the
+-- undisturbed
 -- run before that branch aside; the outer loop scores one place more. Assumes nothing.
 use Rattle.std.proofs.Common.{ℕ, List, ◌≡◌, ◌+◌, ◌^◌, ◌<◌, true, false, ◌⊎◌, length, take, sym, refl, ap, ◌∙◌, inl, inr, arith}
 use Rattle.words.proofs.Puts.{length-put}
@@ -11,7 +12,8 @@ use Rattle.bench.specs.declared.Outcome.{Outcome}
 use Rattle.bench.proofs.Tallies.{score_few}
 use Rattle.bench.proofs.Asides.{Aside, Finished, at-start, spent, small_here, full, on, ends, aside_on, forked, stage_first, makes, so_far, stage_next}
 use Rattle.bench.proofs.runs.make.Goals as goal
-use Rattle.bench.proofs.runs.make.Goals.{else-loop-state-2-test, then-loop-state-2-test+then-not-has_room, then-loop-state-2-test+else-not-has_room+in-With, then-forks, else-forks}
+use Rattle.bench.proofs.runs.make.Goals.{else-loop-state-2-test, then-loop-state-2-test+then-not-has_room}
+use Rattle.bench.proofs.runs.make.Goals.{then-loop-state-2-test+else-not-has_room+in-With, then-forks, else-forks}
 
 -- how the run ended, and the undisturbed run before the branch at the place, where that was executed
 abbrev Exit : (table inputs : List ℕ) (room entry budget place : ℕ) (events : List ℕ) → Outcome → State → ℕ → List ℕ → State → ℕ → Type 0
@@ -63,14 +65,18 @@ returns-then-positions-place c =
     let at = c.loop-state-2 in
     let left = c.loop-state-2-test in
     -- its budget is used up, an event finds no room, or the step was its last
-    let finished : Exit c.args.table.now c.args.inputs.now c.args.room c.args.entry c.args.budget c.loop-state.place c.loop-state.events left.outcome left.state left.words left.events left.aside left.shared =
+    let finished : Exit c.args.table.now c.args.inputs.now c.args.room c.args.entry c.args.budget c.loop-state.place c.loop-state.events
+    left.outcome left.state left.words left.events left.aside left.shared =
     elim left.branch [
       | else-loop-state-2-test w ↦
           rw (w.events-is, w.state-is, w.words-is, w.aside-is, w.shared-is, w.outcome-is ∙ at.invariant.2)
           (spent _ _ _ _ _ _ _ _ _ _ at.invariant.0 w.loop-state-2-test.false, at.invariant.1)
       | then-loop-state-2-test+then-not-has_room w ↦
-          rw (w.events-is, w.state-is, w.words-is, w.aside-is, w.shared-is, w.outcome-is)
-          (full _ _ _ _ _ _ _ _ _ _ at.invariant.0 w.loop-state-2-test.true _ w.effect_at-effect.ensures (sym w.has_room.ensures ∙ w.if-not-has_room.true), at.invariant.1)
+          rw (w.events-is, w.state-is, w.words-is, w.aside-is, w.shared-is, w.outcome-is) (
+            full _ _ _ _ _ _ _ _ _ _ at.invariant.0 w.loop-state-2-test.true _ w.effect_at-effect.ensures
+                (sym w.has_room.ensures ∙ w.if-not-has_room.true),
+            at.invariant.1,
+          )
       | then-loop-state-2-test+else-not-has_room+in-With w ↦
           let small = small_here _ _ _ _ _ _ _ _ _ _ at.invariant.0 w.loop-state-2-test.true _ w.effect_at-effect.ensures in
           let aside : ((w.forks.result ≡ true) × (w.if-forks.aside ≡ at.state) × (w.if-forks.shared ≡ at.words))
@@ -92,14 +98,18 @@ counted-score-requires-clause-words_in_bounds c =
     let at = c.loop-state-2 in
     let left = c.loop-state-2-test in
     -- its budget is used up, an event finds no room, or the step was its last
-    let finished : Exit c.args.table.now c.args.inputs.now c.args.room c.args.entry c.args.budget c.loop-state.place c.loop-state.events left.outcome left.state left.words left.events left.aside left.shared =
+    let finished : Exit c.args.table.now c.args.inputs.now c.args.room c.args.entry c.args.budget c.loop-state.place c.loop-state.events
+    left.outcome left.state left.words left.events left.aside left.shared =
     elim left.branch [
       | else-loop-state-2-test w ↦
           rw (w.events-is, w.state-is, w.words-is, w.aside-is, w.shared-is, w.outcome-is ∙ at.invariant.2)
           (spent _ _ _ _ _ _ _ _ _ _ at.invariant.0 w.loop-state-2-test.false, at.invariant.1)
       | then-loop-state-2-test+then-not-has_room w ↦
-          rw (w.events-is, w.state-is, w.words-is, w.aside-is, w.shared-is, w.outcome-is)
-          (full _ _ _ _ _ _ _ _ _ _ at.invariant.0 w.loop-state-2-test.true _ w.effect_at-effect.ensures (sym w.has_room.ensures ∙ w.if-not-has_room.true), at.invariant.1)
+          rw (w.events-is, w.state-is, w.words-is, w.aside-is, w.shared-is, w.outcome-is) (
+            full _ _ _ _ _ _ _ _ _ _ at.invariant.0 w.loop-state-2-test.true _ w.effect_at-effect.ensures
+                (sym w.has_room.ensures ∙ w.if-not-has_room.true),
+            at.invariant.1,
+          )
       | then-loop-state-2-test+else-not-has_room+in-With w ↦
           let small = small_here _ _ _ _ _ _ _ _ _ _ at.invariant.0 w.loop-state-2-test.true _ w.effect_at-effect.ensures in
           let aside : ((w.forks.result ≡ true) × (w.if-forks.aside ≡ at.state) × (w.if-forks.shared ≡ at.words))
@@ -133,14 +143,18 @@ loop-state-preserved c =
     let at = c.loop-state-2 in
     let left = c.loop-state-2-test in
     -- its budget is used up, an event finds no room, or the step was its last
-    let finished : Exit c.args.table.now c.args.inputs.now c.args.room c.args.entry c.args.budget c.loop-state.place c.loop-state.events left.outcome left.state left.words left.events left.aside left.shared =
+    let finished : Exit c.args.table.now c.args.inputs.now c.args.room c.args.entry c.args.budget c.loop-state.place c.loop-state.events
+    left.outcome left.state left.words left.events left.aside left.shared =
     elim left.branch [
       | else-loop-state-2-test w ↦
           rw (w.events-is, w.state-is, w.words-is, w.aside-is, w.shared-is, w.outcome-is ∙ at.invariant.2)
           (spent _ _ _ _ _ _ _ _ _ _ at.invariant.0 w.loop-state-2-test.false, at.invariant.1)
       | then-loop-state-2-test+then-not-has_room w ↦
-          rw (w.events-is, w.state-is, w.words-is, w.aside-is, w.shared-is, w.outcome-is)
-          (full _ _ _ _ _ _ _ _ _ _ at.invariant.0 w.loop-state-2-test.true _ w.effect_at-effect.ensures (sym w.has_room.ensures ∙ w.if-not-has_room.true), at.invariant.1)
+          rw (w.events-is, w.state-is, w.words-is, w.aside-is, w.shared-is, w.outcome-is) (
+            full _ _ _ _ _ _ _ _ _ _ at.invariant.0 w.loop-state-2-test.true _ w.effect_at-effect.ensures
+                (sym w.has_room.ensures ∙ w.if-not-has_room.true),
+            at.invariant.1,
+          )
       | then-loop-state-2-test+else-not-has_room+in-With w ↦
           let small = small_here _ _ _ _ _ _ _ _ _ _ at.invariant.0 w.loop-state-2-test.true _ w.effect_at-effect.ensures in
           let aside : ((w.forks.result ≡ true) × (w.if-forks.aside ≡ at.state) × (w.if-forks.shared ≡ at.words))

@@ -15,4 +15,5 @@ returns-then-room-words c =
 
 pub returns : goal.returns
 returns c =
-    in_room _ _ _ c.runnable-limits.ensures _ _ c.in-Value.is c.count-registers.ensures _ _ c.in-Value-nodes.is c.count-nodes.ensures c.if-room-words.false c.check_body.ensures
+    in_room _ _ _ c.runnable-limits.ensures _ _ c.in-Value.is c.count-registers.ensures _ _ c.in-Value-nodes.is c.count-nodes.ensures
+    c.if-room-words.false c.check_body.ensures

@@ -10,8 +10,11 @@ returns-in_default c =
     sym (c.loop-i.invariant.1 ∙ cells_refused _ _ _ _ _ _ _ _ _ _ c.loop-i-test.true c.role_at.ensures c.in_default.is c.cell-cell.ensures)
 
 pub loop-i-preserved : goal.loop-i-preserved
-loop-i-preserved c =
-    (omega arith, c.loop-i.invariant.1 ∙ cells_value _ _ _ _ _ _ _ _ _ _ _ c.loop-i-test.true c.role_at.ensures c.in-Value.is c.cell-cell.ensures c.kind_after-kind.ensures)
+loop-i-preserved c = (
+  omega arith,
+  c.loop-i.invariant.1 ∙ cells_value _ _ _ _ _ _ _ _ _ _ _ c.loop-i-test.true c.role_at.ensures c.in-Value.is c.cell-cell.ensures
+      c.kind_after-kind.ensures,
+)
 
 pub returns : goal.returns
 returns c = sym (c.loop-i.invariant.1 ∙ cells_none _ _ _ _ _ _ _ c.loop-i-test.false)

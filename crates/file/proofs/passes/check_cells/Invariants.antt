@@ -8,7 +8,8 @@ use Rattle.file.proofs.passes.check_cells.Given as goal
 
 abbrev pub invariant-loop-i : goal.invariant-loop-i
 invariant-loop-i l =
-    (l.i ≤ l.count) × (end_of (cells_from l.bytes l.registers l.nodes l.count 0 0 l.first) ≡ end_of (cells_from l.bytes l.registers l.nodes (l.count - l.i) l.i l.kind l.at))
+    (l.i ≤ l.count) × (end_of (cells_from l.bytes l.registers l.nodes l.count 0 0 l.first) ≡ end_of
+    (cells_from l.bytes l.registers l.nodes (l.count - l.i) l.i l.kind l.at))
 
 abbrev pub decreases-loop-i : goal.decreases-loop-i
 decreases-loop-i l = l.count - l.i

@@ -8,4 +8,8 @@ take_cells-requires c = take_room _ c.args.table.now c.requires _ _ _ c.taken-r.
 
 pub returns : goal.returns
 returns c =
-    record { result_value = take-answer _ c.args.table.now c.requires _ _ _ c.taken-r.ensures c.taken-n.ensures c.taken-e.ensures; table_after = c.take_cells.ensures ∙ take-table _ c.args.table.now c.requires _ _ _ c.taken-r.ensures c.taken-n.ensures c.taken-e.ensures }
+    record {
+      result_value = take-answer _ c.args.table.now c.requires _ _ _ c.taken-r.ensures c.taken-n.ensures c.taken-e.ensures;
+      table_after =
+          c.take_cells.ensures ∙ take-table _ c.args.table.now c.requires _ _ _ c.taken-r.ensures c.taken-n.ensures c.taken-e.ensures;
+    }

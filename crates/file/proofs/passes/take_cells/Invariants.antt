@@ -9,7 +9,8 @@ use Rattle.file.proofs.passes.take_cells.Given as goal
 
 abbrev pub invariant-loop-i : goal.invariant-loop-i
 invariant-loop-i l =
-    (l.i ≤ l.words) × (length l.table ≡ length l.initial.table) × (put l.initial.table 0 (taken_from l.bytes l.words 0 0 l.first) ≡ put l.table l.i (taken_from l.bytes (l.words - l.i) l.i l.kind l.at))
+    (l.i ≤ l.words) × (length l.table ≡ length l.initial.table) ×
+    (put l.initial.table 0 (taken_from l.bytes l.words 0 0 l.first) ≡ put l.table l.i (taken_from l.bytes (l.words - l.i) l.i l.kind l.at))
 
 abbrev pub decreases-loop-i : goal.decreases-loop-i
 decreases-loop-i l = l.words - l.i

@@ -18,4 +18,8 @@ loop-i-preserved c =
 
 pub returns : goal.returns
 returns c =
-    record { value = walk_size _ _ _ _ _ _ _ c.loop-i.invariant c.loop-i-test.false; out_after = walk_bytes _ _ _ _ _ _ _ c.loop-i.invariant c.loop-i-test.false }
+    record {
+      value = walk_size _ _ _ _ _ _ _ c.loop-i.invariant c.loop-i-test.false;
+      out_after = walk_bytes _ _ _ _ _ _ _ c.loop-i.invariant
+          c.loop-i-test.false;
+    }

@@ -8,7 +8,8 @@ use Rattle.graph.proofs.reach.sweep.Given as goal
 
 abbrev pub invariant-loop-n : goal.invariant-loop-n
 invariant-loop-n l =
-    (l.n ≤ l.nodes) × Grown (marks_of l.initial.marks) (swept (node_at l.table) (marks_of l.initial.marks) l.n) (marks_of l.marks) l.fresh × (length l.marks ≡ length l.initial.marks)
+    (l.n ≤ l.nodes) × Grown (marks_of l.initial.marks) (swept (node_at l.table) (marks_of l.initial.marks) l.n) (marks_of l.marks) l.fresh ×
+    (length l.marks ≡ length l.initial.marks)
 
 abbrev pub decreases-loop-n : goal.decreases-loop-n
 decreases-loop-n l = l.nodes - l.n

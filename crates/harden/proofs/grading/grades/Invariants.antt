@@ -1,4 +1,5 @@
--- `grading::grades` meets its contract. The invariant: the grades are those after the edges of the nodes passed. The measure is what is left of the nodes. Assumes nothing.
+-- `grading::grades` meets its contract. The invariant: the grades are those after the edges of the nodes passed. The measure is
+-- what is left of the nodes. Assumes nothing.
 use Prim.Native.Nat.{◌≤◌, ◌-◌}
 use mathlib.Core.Path.{◌≡◌}
 use lib.ListN.{length, set}

@@ -6,4 +6,5 @@ use Rattle.harden.proofs.groups.branch_group.Goals as goal
 
 pub returns : goal.returns
 returns c =
-    branch_written _ _ _ (signed c.args.signatures.now) _ _ (node_at c.args.table.now c.args.n) _ _ c.word.ensures c.word-2.ensures c.retest.ensures c.arrive.ensures c.arrive-2.ensures
+    branch_written _ _ _ (signed c.args.signatures.now) _ _ (node_at c.args.table.now c.args.n) _ _ c.word.ensures c.word-2.ensures c.retest.ensures
+    c.arrive.ensures c.arrive-2.ensures

@@ -1,4 +1,5 @@
--- `signing::head` meets its contract. The invariant: the head from the start is the head from here with the steps left, which are the measure. Assumes nothing.
+-- `signing::head` meets its contract. The invariant: the head from the start is the head from here with the steps left, which
+-- are the measure. Assumes nothing.
 use native.Mathlib.Omega.{arith}
 use mathlib.Core.Path.{◌≡◌, sym, ◌∙◌}
 use Rattle.harden.specs.Passes.{head_by}

@@ -1,4 +1,5 @@
--- `signing::head` meets its contract. The invariant: the head from the start is the head from here with the steps left, which are the measure. Assumes nothing.
+-- `signing::head` meets its contract. The invariant: the head from the start is the head from here with the steps left, which
+-- are the measure. Assumes nothing.
 use mathlib.Core.Path.{◌≡◌}
 use Rattle.harden.specs.Passes.{head_by}
 use Rattle.harden.proofs.signing.head.Given as goal

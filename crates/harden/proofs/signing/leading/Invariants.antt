@@ -1,4 +1,5 @@
--- `signing::leading` meets its contract. The invariant: the rank counts the leaders passed, and the list is filled so far. The measure is what is left of the nodes. Assumes nothing.
+-- `signing::leading` meets its contract. The invariant: the rank counts the leaders passed, and the list is filled so far. The
+-- measure is what is left of the nodes. Assumes nothing.
 use Prim.Native.Nat.{◌≤◌, ◌-◌}
 use mathlib.Core.Path.{◌≡◌}
 use Rattle.harden.specs.Blocks.{one_plus_rank}

@@ -1,4 +1,5 @@
--- `signing::preceders` meets its contract. The invariant: the predecessors are those after the nodes passed. The measure is what is left of the nodes. Assumes nothing.
+-- `signing::preceders` meets its contract. The invariant: the predecessors are those after the nodes passed. The measure is
+-- what is left of the nodes. Assumes nothing.
 use mathlib.Core.Path.{ap, ◌∙◌}
 use lib.ListN.{length}
 use borrow.Author.Rules.{rules}

@@ -1,4 +1,5 @@
--- `signing::signatures` meets its contract. The invariant: the list is filled so far. The measure is what is left of the nodes. Assumes nothing.
+-- `signing::signatures` meets its contract. The invariant: the list is filled so far. The measure is what is left of the nodes.
+-- Assumes nothing.
 use Prim.Native.Nat.{ℕ}
 use mathlib.Core.Path.{ap, ◌∙◌}
 use lib.ListN.{get_or}

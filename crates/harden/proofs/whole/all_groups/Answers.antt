@@ -1,4 +1,5 @@
--- `whole::all_groups` meets its contract. The invariant: the groups of the nodes passed are written, and e is the first extra node of the next. The measure is what is left of the nodes. Assumes nothing.
+-- `whole::all_groups` meets its contract. The invariant: the groups of the nodes passed are written, and e is the first extra
+-- node of the next. The measure is what is left of the nodes. Assumes nothing.
 use native.Mathlib.Omega.{arith}
 use mathlib.Core.Path.{refl, ◌∙◌}
 use borrow.Author.Rules.{rules}
@@ -14,8 +15,14 @@ group-requires c =
 
 pub overflow_add-e-in-loop-n : goal.overflow_add-e-in-loop-n
 overflow_add-e-in-loop-n c =
-    let small = group_in _ _ _ c.requires.0 _ c.loop-n.invariant.0 c.loop-n.invariant.1 in omega (arith, extra_small c.args.table.now c.args.grades.now c.loop-n.n c.extra-e.ensures)
+    let small = group_in _ _ _ c.requires.0 _ c.loop-n.invariant.0 c.loop-n.invariant.1 in omega
+    (arith, extra_small c.args.table.now c.args.grades.now c.loop-n.n c.extra-e.ensures)
 
 pub loop-n-preserved : goal.loop-n-preserved
-loop-n-preserved c =
-    (omega arith, group-next _ _ _ c.requires.0 _ c.loop-n-test.true c.loop-n.invariant.1 c.extra-e.ensures, groups-next _ _ _ c.requires.0 _ _ c.loop-n.invariant.1 c.loop-n.invariant.2 c.group.ensures, c.group.auto.out ∙ c.loop-n.invariant.3)
+loop-n-preserved c = (
+  omega arith,
+  group-next _ _ _ c.requires.0 _ c.loop-n-test.true c.loop-n.invariant.1 c.extra-e.ensures,
+  groups-next _ _ _ c.requires.0 _ _
+      c.loop-n.invariant.1 c.loop-n.invariant.2 c.group.ensures,
+  c.group.auto.out ∙ c.loop-n.invariant.3,
+)

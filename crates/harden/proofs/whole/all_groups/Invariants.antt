@@ -1,4 +1,5 @@
--- `whole::all_groups` meets its contract. The invariant: the groups of the nodes passed are written, and e is the first extra node of the next. The measure is what is left of the nodes. Assumes nothing.
+-- `whole::all_groups` meets its contract. The invariant: the groups of the nodes passed are written, and e is the first extra
+-- node of the next. The measure is what is left of the nodes. Assumes nothing.
 use Prim.Native.Nat.{◌+◌, ◌≤◌, ◌-◌}
 use mathlib.Core.Path.{◌≡◌}
 use lib.ListN.{length}

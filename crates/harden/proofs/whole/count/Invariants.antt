@@ -1,4 +1,5 @@
--- `whole::count` meets its contract. The invariant: e is the first extra node of the next group. The measure is what is left of the nodes. Assumes nothing.
+-- `whole::count` meets its contract. The invariant: e is the first extra node of the next group. The measure is what is left of
+-- the nodes. Assumes nothing.
 use Prim.Native.Nat.{◌≤◌, ◌-◌}
 use mathlib.Core.Path.{◌≡◌}
 use Rattle.harden.specs.Hardened.{group_at}

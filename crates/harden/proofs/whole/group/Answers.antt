@@ -7,7 +7,8 @@ returns-in-None c = group_none _ _ _ c.requires.0 _ _ _ c.requires.1.1.0 c.targe
 
 pub returns-then-leads : goal.returns-then-leads
 returns-then-leads c =
-    group-crossing _ _ _ c.requires.0 _ _ _ c.requires.1.1.0 c.targets.ensures _ c.requires.1.0 c.in-One.is c.leads.ensures c.if-leads.true c.crossing_group.ensures
+    group-crossing _ _ _ c.requires.0 _ _ _ c.requires.1.1.0 c.targets.ensures _ c.requires.1.0 c.in-One.is c.leads.ensures c.if-leads.true
+    c.crossing_group.ensures
 
 pub returns-else-leads : goal.returns-else-leads
 returns-else-leads c = group_inside _ _ _ c.requires.0 _ _ _ c.requires.1.1.0 c.targets.ensures c.in-One.is c.leads.ensures c.if-leads.false

@@ -1,4 +1,5 @@
--- `whole::source_rows` meets its contract. The invariant: the rows of the nodes passed are written, and e is the first extra node of the next group. The measure is what is left of the nodes. Assumes nothing.
+-- `whole::source_rows` meets its contract. The invariant: the rows of the nodes passed are written, and e is the first extra
+-- node of the next group. The measure is what is left of the nodes. Assumes nothing.
 use native.Mathlib.Omega.{arith}
 use mathlib.Core.Path.{refl, ◌∙◌}
 use borrow.Author.Rules.{rules}
@@ -13,8 +14,14 @@ own_row-requires c = let small = group_in _ _ _ c.requires _ c.loop-n.invariant.
 
 pub overflow_add-e-in-loop-n : goal.overflow_add-e-in-loop-n
 overflow_add-e-in-loop-n c =
-    let small = group_in _ _ _ c.requires _ c.loop-n.invariant.0 c.loop-n.invariant.1 in omega (arith, extra_small c.args.table.now c.args.grades.now c.loop-n.n c.extra-e.ensures)
+    let small = group_in _ _ _ c.requires _ c.loop-n.invariant.0 c.loop-n.invariant.1 in omega
+    (arith, extra_small c.args.table.now c.args.grades.now c.loop-n.n c.extra-e.ensures)
 
 pub loop-n-preserved : goal.loop-n-preserved
-loop-n-preserved c =
-    (omega arith, group-next _ _ _ c.requires _ c.loop-n-test.true c.loop-n.invariant.1 c.extra-e.ensures, source-next _ _ _ c.requires _ _ c.loop-n.invariant.1 c.loop-n.invariant.2 c.own_row.ensures, c.own_row.auto.out ∙ c.loop-n.invariant.3)
+loop-n-preserved c = (
+  omega arith,
+  group-next _ _ _ c.requires _ c.loop-n-test.true c.loop-n.invariant.1 c.extra-e.ensures,
+  source-next _ _ _ c.requires _ _
+      c.loop-n.invariant.1 c.loop-n.invariant.2 c.own_row.ensures,
+  c.own_row.auto.out ∙ c.loop-n.invariant.3,
+)

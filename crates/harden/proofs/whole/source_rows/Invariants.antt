@@ -1,4 +1,5 @@
--- `whole::source_rows` meets its contract. The invariant: the rows of the nodes passed are written, and e is the first extra node of the next group. The measure is what is left of the nodes. Assumes nothing.
+-- `whole::source_rows` meets its contract. The invariant: the rows of the nodes passed are written, and e is the first extra
+-- node of the next group. The measure is what is left of the nodes. Assumes nothing.
 use Prim.Native.Nat.{◌≤◌, ◌-◌}
 use mathlib.Core.Path.{◌≡◌}
 use lib.ListN.{length}

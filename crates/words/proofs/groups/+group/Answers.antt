@@ -19,7 +19,8 @@ returns-then-byte-lt128 t c = groups_last _ _ _ _ c.byte_at-byte.ensures _ _ c.i
 
 pub returns-in_default : goal.returns-in_default
 returns-in_default t c =
-    rw c.in_default.is (rw c.in_default.is at (groups_longer _ _ _ _ c.byte_at-byte.ensures _ _ c.if-byte-gt255.false c.if-more-eq0.false c.if-byte-lt128.false c.group-rest.ensures))
+    rw c.in_default.is (rw c.in_default.is at
+    (groups_longer _ _ _ _ c.byte_at-byte.ensures _ _ c.if-byte-gt255.false c.if-more-eq0.false c.if-byte-lt128.false c.group-rest.ensures))
 
 pub overflow_mul-result : goal.overflow_mul-result
 overflow_mul-result t c = omega (arith, groups_room _ _ _ _ _ _ _ c.requires c.if-more-eq0.false c.in-Value.is c.group-rest.ensures)
