@@ -25,7 +25,7 @@ use Rattle.swift.specs.Trials.{Trial, plain, hardened, hardened_graph}
 use Rattle.swift.proofs.Rows.{own_row_lem, extra_row, extra_of}
 use Rattle.swift.proofs.Rounds.{step-at}
 use Rattle.swift.proofs.Roles.{Accepted, gsr, sign_of, check_for, Along, AtSource, BranchAt, SourceStep, HardenedStep, Moved, Departs, walks, jumps, tests, ends, stops}
-use Rattle.swift.proofs.Stepping.{fork, get-along, test_along, both_along, branch_row, update_row, check_row, way_from}
+use Rattle.swift.proofs.Stepping.{fork, get-along, test_along, both_along, branch_row, way_from}
 
 module _ (t : Trial) (ok : Accepted t.source) where
   abbrev s : Source
