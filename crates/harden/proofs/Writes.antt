@@ -4,7 +4,7 @@ use Prim.Native.Nat.{ℕ, ◌+◌, ◌*◌, ◌≤◌}
 use native.Mathlib.Nat.{add_assoc}
 use native.Mathlib.Numerals.{add-one, add-two}
 use native.Mathlib.Omega.{arith}
-use mathlib.Core.Path.{◌≡◌, refl, sym, ap, ◌∙◌}
+use mathlib.Core.Path.{◌≡◌, refl, sym, ap, subst, ◌∙◌}
 use mathlib.Core.List.{List, [], ◌∷◌, ◌++◌, append_assoc}
 use lib.ListN.{length, get_or, set}
 use Rattle.words.specs.Buffer.{put, over}
@@ -94,8 +94,9 @@ module _ (registers catch e : ℕ) (sign : ℕ → ℕ) (n : ℕ) (l₀ : List �
         st ≡ sign t → sf ≡ sign f →
         l₁ ≡ put_rows l₀ e (retest registers e sign n node t f) → l₂ ≡ put_rows l₁ (e + 3) (arrival registers catch (e + 3) st t) →
         l₃ ≡ put_rows l₂ (e + 5) (arrival registers catch (e + 5) sf f) → l₃ ≡ put_rows l₀ e (branching registers catch e sign n node t f)
-    branch_written pt pf p q r =
+    branch_written {l₁} {l₂} {l₃} pt pf p q r =
         more_rows l₀ e (e + 5) (retest registers e sign n node t f ++ arrival registers catch (e + 3) (sign t) t) (arrival registers catch (e + 5) (sign f) f)
-        (more_rows l₀ e (e + 3) (retest registers e sign n node t f) (arrival registers catch (e + 3) (sign t) t) p (rw pt at q) refl)
-        (rw pf at r)
+        (more_rows l₀ e (e + 3) (retest registers e sign n node t f) (arrival registers catch (e + 3) (sign t) t) p
+        (subst (λ (s : ℕ). l₂ ≡ put_rows l₁ (e + 3) (arrival registers catch (e + 3) s t)) pt q) refl)
+        (subst (λ (s : ℕ). l₃ ≡ put_rows l₂ (e + 5) (arrival registers catch (e + 5) s f)) pf r)
         refl

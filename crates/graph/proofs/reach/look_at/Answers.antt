@@ -1,6 +1,6 @@
 -- `reach::look_at` meets its contract: of a marked node the targets are marked. Assumes nothing.
 use mathlib.Core.Path.{◌≡◌, sym, ◌∙◌}
-use mathlib.Core.Bool.{true}
+use mathlib.Core.Bool.{true, false}
 use mathlib.Core.List.{[], ◌∷◌}
 use Rattle.graph.specs.Paths.{marked}
 use Rattle.graph.specs.Marks.{marks_of}
@@ -8,7 +8,9 @@ use Rattle.graph.proofs.Bytes.{look_bare, look_marked, grown_none}
 use Rattle.graph.proofs.reach.look_at.Goals as goal
 
 pub returns-then-not-marked : goal.returns-then-not-marked
-returns-then-not-marked c = look_bare _ _ _ (sym c.marked.ensures ∙ c.if-not-marked.true)
+returns-then-not-marked c =
+    let is_bare : marked (marks_of c.args.marks.now) c.args.n ≡ false = sym c.marked.ensures ∙ c.if-not-marked.true in
+    look_bare _ _ _ is_bare
 
 pub returns-in-None : goal.returns-in-None
 returns-in-None c =
