@@ -1,5 +1,4 @@
--- `desk::file` meets its contract: the argument, then the file.
--- Assumes nothing.
+-- `desk::file` meets its contract: the argument, then the file. Assumes nothing.
 use mathlib.Core.Path.{sym}
 use Rattle.desk.specs.Programs.{file_program, complained}
 use Rattle.desk.proofs.file.Goals as goal

@@ -1,5 +1,4 @@
--- `desk::list` meets its contract.
--- Assumes nothing.
+-- `desk::list` meets its contract. Assumes nothing.
 use native.Mathlib.Omega.{arith}
 use mathlib.Core.Bool.{true}
 use Rattle.desk.specs.Listing.{listing}

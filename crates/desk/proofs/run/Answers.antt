@@ -1,5 +1,4 @@
--- `desk::run` meets its contract.
--- Assumes nothing.
+-- `desk::run` meets its contract. Assumes nothing.
 use mathlib.Core.Path.{sym}
 use Rattle.desk.specs.Programs.{run_program, complained}
 use Rattle.desk.proofs.run.Goals as goal

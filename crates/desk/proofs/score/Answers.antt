@@ -1,5 +1,4 @@
--- `desk::score` meets its contract.
--- Assumes nothing.
+-- `desk::score` meets its contract. Assumes nothing.
 use mathlib.Core.Path.{sym}
 use Rattle.desk.specs.Programs.{score_program, complained}
 use Rattle.desk.proofs.score.Goals as goal

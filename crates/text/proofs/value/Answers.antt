@@ -1,6 +1,5 @@
 -- `text::value` meets its contract. The loop's invariant: the number of the whole text is that of the bytes left, after those
--- passed.
--- Assumes nothing.
+-- passed. Assumes nothing.
 use mathlib.Core.Path.{sym, ◌∙◌}
 use native.Mathlib.Omega.{arith}
 use borrow.Author.Rules.{rules}

@@ -1,6 +1,5 @@
 -- `text::value` meets its contract. The loop's invariant: the number of the whole text is that of the bytes left, after those
--- passed.
--- Assumes nothing.
+-- passed. Assumes nothing.
 use Prim.Native.Nat.{◌≤◌, ◌-◌}
 use mathlib.Core.Path.{◌≡◌}
 use lib.ListN.{length, drop}

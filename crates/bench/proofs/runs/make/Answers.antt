@@ -1,6 +1,5 @@
 -- `bench::runs::make` meets its contract: the inner loop makes the run with the branch at the place inverted and sets the
--- undisturbed
--- run before that branch aside; the outer loop scores one place more. Assumes nothing.
+-- undisturbed run before that branch aside; the outer loop scores one place more. Assumes nothing.
 use Rattle.std.proofs.Common.{ℕ, List, ◌≡◌, ◌+◌, ◌^◌, ◌<◌, true, false, ◌⊎◌, length, take, sym, refl, ap, ◌∙◌, inl, inr, arith}
 use Rattle.words.proofs.Puts.{length-put}
 use Rattle.bench.specs.Steps.{start}

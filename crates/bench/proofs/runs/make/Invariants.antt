@@ -1,8 +1,6 @@
 -- `bench::runs::make` meets its contract. At the head of the inner loop the state is that of the run with the branch at the
--- place inverted,
--- after as many rounds as steps were made, and what was set aside is the undisturbed run before that branch, once it is passed.
--- At the
--- head of the outer loop the places below are scored. Assumes nothing.
+-- place inverted, after as many rounds as steps were made, and what was set aside is the undisturbed run before that branch,
+-- once it is passed. At the head of the outer loop the places below are scored. Assumes nothing.
 use Rattle.std.proofs.Common.{◌≡◌, ◌-◌, ◌<◌, ◌≤◌, length}
 use Rattle.bench.specs.declared.Outcome.TheVariants.{Spent}
 use Rattle.bench.proofs.Asides.{Standing, Aside, Stage}

@@ -1,5 +1,4 @@
--- `desk::arguments::fault` meets its contract.
--- Assumes nothing.
+-- `desk::arguments::fault` meets its contract. Assumes nothing.
 use mathlib.Core.Path.{sym}
 use Rattle.desk.specs.Arguments.{fault_of}
 use Rattle.desk.proofs.arguments.fault.Goals as goal

@@ -1,5 +1,4 @@
--- `desk::arguments::mode` meets its contract.
--- Assumes nothing.
+-- `desk::arguments::mode` meets its contract. Assumes nothing.
 use mathlib.Core.Path.{sym}
 use Rattle.desk.specs.Arguments.{mode_of}
 use Rattle.desk.proofs.arguments.mode.Goals as goal

@@ -1,5 +1,4 @@
--- `desk::arguments::settings` meets its contract.
--- Assumes nothing.
+-- `desk::arguments::settings` meets its contract. Assumes nothing.
 use mathlib.Core.Path.{sym}
 use Rattle.desk.specs.Arguments.{settings_of}
 use Rattle.desk.proofs.arguments.settings.Goals as goal

@@ -1,5 +1,4 @@
--- `desk::arguments::words` meets its contract.
--- Assumes nothing.
+-- `desk::arguments::words` meets its contract. Assumes nothing.
 use native.Mathlib.Omega.{arith}
 use Rattle.desk.proofs.Cells.{words_end, words_bad, words_all}
 use Rattle.desk.proofs.arguments.words.Goals as goal

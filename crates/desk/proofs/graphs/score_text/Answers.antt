@@ -1,5 +1,4 @@
--- `desk::graphs::score_text` meets its contract.
--- Assumes nothing.
+-- `desk::graphs::score_text` meets its contract. Assumes nothing.
 use mathlib.Core.Path.{sym}
 use Rattle.desk.proofs.Answers.{scored_text, campaign_refused}
 use Rattle.desk.proofs.graphs.score_text.Goals as goal

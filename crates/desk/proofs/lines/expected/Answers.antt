@@ -1,5 +1,4 @@
--- `desk::lines::expected` meets its contract.
--- Assumes nothing.
+-- `desk::lines::expected` meets its contract. Assumes nothing.
 use Rattle.text.proofs.Writing.{wrote_then, wrote_three}
 use Rattle.desk.proofs.lines.expected.Goals as goal
 

@@ -1,5 +1,4 @@
--- `desk::lines::listed` meets its contract.
--- Assumes nothing.
+-- `desk::lines::listed` meets its contract. Assumes nothing.
 use Rattle.text.proofs.Writing.{wrote_three}
 use Rattle.desk.proofs.lines.listed.Goals as goal
 

@@ -1,5 +1,4 @@
--- `desk::lines::named` meets its contract.
--- Assumes nothing.
+-- `desk::lines::named` meets its contract. Assumes nothing.
 use Rattle.text.proofs.Writing.{wrote_three}
 use Rattle.desk.proofs.lines.named.Goals as goal
 

@@ -1,5 +1,4 @@
--- `desk::lines::pair` meets its contract.
--- Assumes nothing.
+-- `desk::lines::pair` meets its contract. Assumes nothing.
 use mathlib.Core.List.{◌∷◌, []}
 use Rattle.text.proofs.Decimals.{spaced_then}
 use Rattle.desk.proofs.lines.pair.Goals as goal

@@ -1,5 +1,4 @@
--- `desk::lines::refusal` meets its contract.
--- Assumes nothing.
+-- `desk::lines::refusal` meets its contract. Assumes nothing.
 use Rattle.desk.specs.Lines.{refusal_line}
 use Rattle.text.proofs.Writing.{wrote_three}
 use Rattle.desk.proofs.lines.refusal.Goals as goal

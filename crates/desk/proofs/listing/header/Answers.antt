@@ -1,5 +1,4 @@
--- `desk::listing::header` meets its contract.
--- Assumes nothing.
+-- `desk::listing::header` meets its contract. Assumes nothing.
 use Rattle.text.proofs.Writing.{wrote_three}
 use Rattle.desk.proofs.listing.header.Goals as goal
 

@@ -1,5 +1,4 @@
--- `desk::loading::hardened` meets its contract.
--- Assumes nothing.
+-- `desk::loading::hardened` meets its contract. Assumes nothing.
 use Rattle.desk.proofs.Answers.{hardened_graph_lem, hardened_refused}
 use Rattle.desk.proofs.loading.hardened.Goals as goal
 

@@ -1,5 +1,4 @@
--- `desk::loading::load` meets its contract.
--- Assumes nothing.
+-- `desk::loading::load` meets its contract. Assumes nothing.
 use Rattle.desk.proofs.Answers.{load_hardened, load_plain}
 use Rattle.desk.proofs.loading.load.Goals as goal
 

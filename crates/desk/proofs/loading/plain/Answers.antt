@@ -1,5 +1,4 @@
--- `desk::loading::plain` meets its contract.
--- Assumes nothing.
+-- `desk::loading::plain` meets its contract. Assumes nothing.
 use Rattle.desk.proofs.Answers.{plain_graph, plain_refused}
 use Rattle.desk.proofs.loading.plain.Goals as goal
 

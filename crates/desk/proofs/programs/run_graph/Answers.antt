@@ -1,5 +1,4 @@
--- `desk::programs::run_graph` meets its contract.
--- Assumes nothing.
+-- `desk::programs::run_graph` meets its contract. Assumes nothing.
 use Rattle.desk.specs.Programs.{graph_in, run_on, progress_text, run_print}
 use Rattle.desk.proofs.Answers.{wrote_as, then_text, then_refused}
 use Rattle.desk.proofs.programs.run_graph.Goals as goal

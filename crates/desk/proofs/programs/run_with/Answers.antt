@@ -1,5 +1,4 @@
--- `desk::programs::run_with` meets its contract.
--- Assumes nothing.
+-- `desk::programs::run_with` meets its contract. Assumes nothing.
 use mathlib.Core.Path.{◌≡◌, sym, ap, ◌∙◌}
 use mathlib.Core.List.{List}
 use Prim.Native.Nat.{ℕ}

@@ -1,5 +1,4 @@
--- `desk::programs::run_words` meets its contract.
--- Assumes nothing.
+-- `desk::programs::run_words` meets its contract. Assumes nothing.
 use Rattle.desk.specs.Programs.{run_print}
 use Rattle.desk.proofs.Shows.{words_shown, words_wrong}
 use Rattle.desk.proofs.programs.run_words.Goals as goal

@@ -1,5 +1,4 @@
--- `desk::programs::score_graph` meets its contract.
--- Assumes nothing.
+-- `desk::programs::score_graph` meets its contract. Assumes nothing.
 use Rattle.desk.specs.Programs.{graph_in, score_on, score_print}
 use Rattle.desk.specs.Lines.{score_line}
 use Rattle.desk.proofs.Answers.{wrote_as, then_text, then_refused}

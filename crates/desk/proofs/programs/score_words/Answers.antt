@@ -1,5 +1,4 @@
--- `desk::programs::score_words` meets its contract.
--- Assumes nothing.
+-- `desk::programs::score_words` meets its contract. Assumes nothing.
 use Rattle.desk.specs.Programs.{score_print}
 use Rattle.desk.proofs.Shows.{words_shown, words_wrong}
 use Rattle.desk.proofs.programs.score_words.Goals as goal
