@@ -1,13 +1,13 @@
 -- What an accepted campaign answers: as many positions as the undisturbed run executed branches, each in one of the five counts.
 -- Assumes nothing.
-use Rattle.std.proofs.Common.{◌≡◌, ℕ, eqb, leb, List, subst, arith}
-use Rattle.words.specs.Answer.{given, refused}
+use Rattle.std.proofs.Common.{◌≡◌, ℕ, eqb, leb, List, subst}
+use Rattle.words.specs.Answer.{given}
 use Rattle.graph.specs.Checks.{runnable_check}
 use Rattle.graph.proofs.Passed.{demand_given}
 use Rattle.graph.proofs.Facts.{and_given}
 use Rattle.bench.specs.Steps.{Machine, Setting}
 use Rattle.bench.specs.Runs.{run_of, settled, most_steps}
-use Rattle.bench.specs.Ready.{setting_of}
+use Rattle.graph.specs.Nodes.{node_at}
 use Rattle.bench.specs.Campaigns.{score_of, score_below, campaign_answer}
 use Rattle.bench.proofs.Tallies.{Whole, score_whole}
 use Rattle.bench.specs.declared.Fault.TheVariants.{Undisturbed}
@@ -15,24 +15,21 @@ use Rattle.bench.specs.declared.Outcome.{Outcome}
 use Rattle.bench.specs.declared.Outcome.TheVariants.{Returned, Caught, Spent, Full}
 use Rattle.bench.specs.declared.Score.{Score}
 
-no_score_lem : {P : Type 0} (number place : ℕ) (score : Score) → refused number place ≡ given score → P
-no_score_lem number place score e = absurd (let z : ◌≡◌ {A = ℕ} 0 1 = cc in omega arith)
-
 by_outcome : (s : Setting) (entry budget : ℕ) (m : Machine) (outcome : Outcome) (score : Score) → score_of s entry budget m outcome ≡ given score
     → Whole m.branches score
 by_outcome s entry budget m (Returned value) score e =
     let is : score_below s entry budget value m.events m.branches ≡ score = cc in
     subst (Whole m.branches) is (score_whole s entry budget value m.events m.branches)
-by_outcome s entry budget m Caught score e = no_score_lem 13 0 score e
-by_outcome s entry budget m Spent score e = no_score_lem 13 0 score e
-by_outcome s entry budget m Full score e = no_score_lem 13 0 score e
+by_outcome s entry budget m Caught score e = cc
+by_outcome s entry budget m Spent score e = cc
+by_outcome s entry budget m Full score e = cc
 
 pub campaign_whole : (registers nodes entry : ℕ) (table inputs : List ℕ) (first second budget : ℕ) (score : Score)
     → campaign_answer registers nodes entry table inputs first second budget ≡ given score
-    → Whole (run_of (setting_of table inputs first) Undisturbed entry budget).machine.branches score
+    → Whole (run_of (record { graph = node_at table; inputs = inputs; room = first }) Undisturbed entry budget).machine.branches score
 unfolding campaign_answer
 campaign_whole registers nodes entry table inputs first second budget score e =
-    let s = setting_of table inputs first in
+    let s : Setting = record { graph = node_at table; inputs = inputs; room = first } in
     let run = run_of s Undisturbed entry budget in
     let accepted = and_given (runnable_check registers nodes entry table) _ e in
     let within = demand_given (leb budget most_steps) 12 0 _ accepted.2 in

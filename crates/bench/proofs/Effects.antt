@@ -28,7 +28,8 @@ module _ (inputs : List ℕ) (room : ℕ) (fault : Fault) (state : State) (event
   same a = set-get_or state.registers a 0
 
   by_node : (node : Node)
-      → unless (stopped room node (machine_of state events)) (machine_of state events) (execute inputs fault node (machine_of state events)) ≡ followed room state events (effect_of state.registers inputs state.reads state.node (inverts fault state.branches) node)
+      → unless (stopped room node (machine_of state events)) (machine_of state events) (execute inputs fault node (machine_of state events))
+      ≡ followed room state events (effect_of state.registers inputs state.reads state.node (inverts fault state.branches) node)
   unfolding effect_of
   by_node (go (const d k) next) = simp (append-nil, add-zero)
   by_node (go (op o d a b) next) = simp (append-nil, add-zero)

@@ -5,13 +5,15 @@ pub mod Growth
 pub mod Rounds
 pub mod Faults
 pub mod Prefixes
+pub mod Runners
 pub mod Turns
 pub mod Pairs
-pub mod Checked
 pub mod Tallies
 pub mod Asides
+pub mod Checked
 pub mod Campaigned
 pub mod Signed
 pub mod Accepted
 pub mod Tails
 pub mod Held
+pub mod Rows

@@ -37,7 +37,8 @@ module _ (s : Setting) (fault : Fault) where
   ended-after m outcome (suc k) = ap (next s fault) (ended-after m outcome k)
 
   -- what has ended after some rounds has so ended after more
-  pub ended_stays : (p : Progress) (m : Machine) (outcome : Outcome) (k n : ℕ) → k ≤ n → after s fault p k ≡ at m (ended outcome) → after s fault p n ≡ at m (ended outcome)
+  pub ended_stays : (p : Progress) (m : Machine) (outcome : Outcome) (k n : ℕ) → k ≤ n → after s fault p k ≡ at m (ended outcome)
+      → after s fault p n ≡ at m (ended outcome)
   ended_stays p m outcome k n h e =
       let split : n ≡ k + (n - k) = omega arith in
       ap (after s fault p) split ∙ after-add p k (n - k) ∙ ap (λ (q : Progress). after s fault q (n - k)) e ∙ ended-after m outcome (n - k)

@@ -18,6 +18,11 @@ whole_more harmless k score w = record { positions = omega arith; sum = omega ar
 whole_more changed k score w = record { positions = omega arith; sum = omega arith }
 whole_more unended k score w = record { positions = omega arith; sum = omega arith }
 
+-- a score of zeros is the score of no position
+pub zeros_none : (s : Score)
+    → (s.positions ≡ 0) × ((s.caught ≡ 0) × ((s.late ≡ 0) × ((s.harmless ≡ 0) × ((s.changed ≡ 0) × (s.unended ≡ 0))))) → s ≡ no_score
+zeros_none s (a, (b, (c, (d, (e, f))))) = rw (a, b, c, d, e, f)
+
 module _ (s : Setting) (entry budget value : ℕ) (reference : List ℕ) where
   pub score_whole : (k : ℕ) → Whole k (score_below s entry budget value reference k)
   unfolding score_below

@@ -1,22 +1,26 @@
 -- One turn of a run: what a loop that applies effects in place knows before and after it, and how the run stands where it ends.
 -- Assumes nothing.
-use Rattle.std.proofs.Common.{◌≡◌, ℕ, ◌+◌, ◌<◌, ◌≤◌, Bool, true, false, cond, List, ◌++◌, length, get_or, take, drop, sym, refl, ap, ◌∙◌, arith, length-append, length-set, take-append-drop, length-take-le}
+use Rattle.std.proofs.Common.{◌≡◌, ℕ, ◌+◌, ◌^◌, ◌<◌, ◌≤◌, Bool, true, false, cond, eqb, Some, None, List, [], ◌++◌, length, get_or, take, drop, sym, refl, ap, ◌∙◌, arith, length-append, take-append-drop, length-take-le}
+use Rattle.std.specs.Prelude.{Option}
 use Rattle.words.specs.Buffer.{put, over}
-use Rattle.words.proofs.Puts.{put-at, put-over, length-put}
+use Rattle.words.proofs.Puts.{put_nil, put-at, put-over}
 use Rattle.graph.specs.Nodes.{Node, go, branch, ret, stop, const, op, input, output, node_at}
 use Rattle.graph.specs.Accepted.{NodeIn}
 use Rattle.bench.specs.Words.{compare}
-use Rattle.bench.specs.Steps.{Setting, Status, going, ended, Progress, at, inverts, flip}
-use Rattle.bench.specs.Effects.{comparand, effect_of, effect_from, event_words, has_room, status_after, applied, machine_of}
-use Rattle.bench.specs.Runs.{next, after, settled}
-use Rattle.bench.specs.Ready.{End, Ends, Ready, setting_of}
+use Rattle.bench.specs.Steps.{Status, going, ended, Progress, at, start, flip}
+use Rattle.bench.specs.Effects.{comparand, effect_of, effect_from, event_words, has_room, status_of, status_after, words_after, with_event, outcome_of, applied, machine_of, Takes}
+use Rattle.bench.specs.Runs.{next, run_of, settled}
+use Rattle.bench.specs.Ready.{effect_in, Ends, Standing, setting_of, first_point}
 use Rattle.bench.proofs.Bounds.{Counts, counts}
 use Rattle.bench.proofs.Effects.{followed, step_effect}
-use Rattle.bench.proofs.Rounds.{after_more, next_going, ended_stays}
-use Rattle.bench.specs.declared.Fault.{Fault}
+use Rattle.bench.proofs.Rounds.{after_none, after_more, next_going, ended_stays}
+use Rattle.bench.proofs.Runners.{node_in, ready_start}
+use Rattle.bench.specs.declared.Fault.TheVariants.{Inverted}
 use Rattle.bench.specs.declared.State.{State}
 use Rattle.bench.specs.declared.Outcome.{Outcome}
 use Rattle.bench.specs.declared.Outcome.TheVariants.{Spent, Full}
+use Rattle.bench.specs.declared.runner.Runner.{Runner}
+use Rattle.bench.specs.declared.runs.Point.{Point}
 use Rattle.bench.specs.declared.steps.Effect.{Effect}
 
 -- an effect of a node of the graph names a register below 64 and a node of the graph
@@ -44,39 +48,6 @@ module _ (registers inputs : List ℕ) (reads self : ℕ) (flips : Bool) (nodes 
   named (ret a) i = (i, h)
   named stop i = (omega arith, h)
 
--- the effect that the code computes
-pub effect_from_lem : (table inputs : List ℕ) (room : ℕ) (fault : Fault) (state : State) {e : Effect} {flips : Bool}
-    → flips ≡ inverts fault state.branches → e ≡ effect_of state.registers inputs state.reads state.node flips (node_at table state.node)
-    → e ≡ effect_from (setting_of table inputs room) fault state
-unfolding effect_from
-effect_from_lem table inputs room fault state f eq =
-    eq ∙ ap (λ (b : Bool). effect_of state.registers inputs state.reads state.node b (node_at table state.node)) f
-
-module _ (table inputs : List ℕ) (room budget : ℕ) (fault : Fault) (state : State) (e : Effect) where
-  pub small : (ready : Ready table budget state) → e ≡ effect_from (setting_of table inputs room) fault state → Small ready.inside.nodes e
-  unfolding effect_from
-  small ready eq =
-      let i = ready.inside in
-      let node = node_at table state.node in
-      let flips = inverts fault state.branches in
-      let n = named state.registers inputs state.reads state.node flips i.nodes i.inside node (i.node_in _ i.inside) in
-      rw eq
-      (record { register = n.0; next = n.1; counts = counts state.registers inputs state.reads state.node flips node })
-
-  -- a state that a run can be in is followed by another
-  pub ready_applied : Ready table budget state → state.steps < budget → e ≡ effect_from (setting_of table inputs room) fault state
-      → Ready table budget (applied state e)
-  ready_applied ready h eq =
-      let i = ready.inside in
-      let m = small ready eq in
-      record {
-        inside = record { nodes = i.nodes; inside = m.next; room = i.room; node_in = i.node_in };
-        registers = length-set state.registers e.register e.value ∙ ready.registers;
-        in_budget = omega arith;
-        branches = omega arith;
-        reads = omega arith;
-      }
-
 -- the words at the head of a buffer, put there, change nothing
 pub put-take : (l : List ℕ) (n : ℕ) → n ≤ length l → put l 0 (take n l) ≡ l
 unfolding over
@@ -84,61 +55,143 @@ put-take l n h =
     let e : length (take n l) ≡ n = length-take-le n l h in
     put-over l (take n l) (omega arith) ∙ ap (λ (k : ℕ). take n l ++ drop k l) e ∙ take-append-drop n l
 
-module _ (s : Setting) (fault : Fault) (p : Progress) (buffer : List ℕ) where
-  -- the run is going after some rounds: its state, how many words of events there are, and what the buffer holds
-  pub record Reached (rounds : ℕ) (state : State) (words : ℕ) (held : List ℕ) : Type 0 where
-    pub events : List ℕ
-    pub here : after s fault p rounds ≡ at (machine_of state events) going
-    pub count : length events ≡ words
-    pub holds : held ≡ put buffer 0 events
+-- what was written of a step's event, and whether it had room
+module _ (e : Effect) (words room : ℕ) (held : List ℕ) where
+  abbrev After : Bool → Option ℕ
+  After b = cond b (Some (words + length (event_words e.sequel e.value))) None
 
-  pub reached-length : {rounds : ℕ} {state : State} {words : ℕ} {held : List ℕ} → Reached rounds state words held → length held ≡ length buffer
-  reached-length r = ap length r.holds ∙ length-put buffer 0 r.events
+  abbrev With : Bool → List ℕ
+  With b = cond b (put held words (event_words e.sequel e.value)) held
 
-  -- the run has ended so after n rounds
-  abbrev pub EndsAs : ℕ → End → List ℕ → Type 0
-  EndsAs n r held = Ends (after s fault p n) buffer r held
+  no_room : (b : Bool) → After b ≡ None → (b ≡ false) × (With b ≡ held)
+  no_room true is = cc
+  no_room false is = (refl, refl)
 
-  ends_as : (n : ℕ) (state : State) (events : List ℕ) (status : Status) (words : ℕ) (held : List ℕ) → after s fault p n ≡ at (machine_of state events) status → length events ≡ words → held ≡ put buffer 0 events → EndsAs n (record { outcome = settled status; state = state; words = words }) held
-  ends_as n state events status words held here count holds = rw (here, ← count) (refl, holds)
+  some_room : (b : Bool) (n : ℕ) → After b ≡ Some n
+      → (b ≡ true) × (n ≡ words + length (event_words e.sequel e.value)) × (With b ≡ put held words (event_words e.sequel e.value))
+  some_room true n is = (refl, cc, refl)
+  some_room false n is = cc
 
-  module _ (rounds : ℕ) (state : State) (words : ℕ) (held : List ℕ) (r : Reached rounds state words held) (e : Effect) (eq : e ≡ effect_from s fault state) where
-    round : after s fault p (rounds + 1) ≡ followed s.room state r.events e
-    round = after_more s fault p rounds ∙ ap (next s fault) r.here ∙ next_going s fault _ ∙ step_effect s fault state r.events ∙ ap (followed s.room state r.events) (sym eq)
+-- a run starts
+pub starts : (r : Runner) (place : ℕ) (buffer : List ℕ) (point : Point) → point ≡ first_point r → Standing r place buffer point buffer
+unfolding run_of start
+starts r place buffer point is =
+    rw is
+    (record {
+      reached = record { ready = ready_start r; events = []; here = after_none (setting_of r) (Inverted place) _; count = refl };
+      holds = sym (put_nil buffer 0);
+    })
 
-    -- an event for which there is no room stops the run
-    pub turn_full : (n : ℕ) → rounds + 1 ≤ n → has_room e.sequel words s.room ≡ false → EndsAs n (record { outcome = Full; state = state; words = words }) held
-    turn_full n h lacks =
-        let stops : after s fault p (rounds + 1) ≡ at (machine_of state r.events) (ended Full) = round ∙ rw (r.count, lacks) in
-        ends_as n state r.events (ended Full) words held (ended_stays s fault p _ Full (rounds + 1) n h stops) r.count r.holds
+module _ (r : Runner) (place : ℕ) (buffer : List ℕ) (point : Point) (held : List ℕ) (x : Standing r place buffer point held) where
+  abbrev state : State
+  state = point.state
 
-    module _ (ok : has_room e.sequel words s.room ≡ true) (words' : ℕ) (held' : List ℕ) (counted : words' ≡ words + length (event_words e.sequel e.value)) (wrote : held' ≡ put held words (event_words e.sequel e.value)) where
-      events' : List ℕ
-      events' = r.events ++ event_words e.sequel e.value
+  abbrev events : List ℕ
+  events = x.reached.events
 
-      made : (status : Status) → status ≡ status_after e.sequel e.value → after s fault p (rounds + 1) ≡ at (machine_of (applied state e) events') status
-      unfolding events'
-      made status st = round ∙ rw (r.count, ok, st)
+  abbrev run : ℕ → Progress
+  run = run_of (setting_of r) (Inverted place) r.header.entry
 
-      count' : length events' ≡ words'
-      unfolding events'
-      count' = length-append r.events _ ∙ ap (λ (k : ℕ). k + length (event_words e.sequel e.value)) r.count ∙ sym counted
+  -- a run has ended over a buffer
+  abbrev pub Finished : Outcome → Point → List ℕ → Type 0
+  Finished outcome last held = Ends r place buffer (record { outcome = outcome; last = last }) held
 
-      holds' : held' ≡ put buffer 0 events'
-      unfolding events'
-      holds' = wrote ∙ ap (λ (l : List ℕ). put l words (event_words e.sequel e.value)) r.holds ∙ put-at buffer 0 words r.events _ (omega (arith, r.count))
-
-      -- the run goes on
-      pub turn_on : (rounds' : ℕ) → rounds' ≡ rounds + 1 → going ≡ status_after e.sequel e.value → Reached rounds' (applied state e) words' held'
-      turn_on rounds' h st =
-          record { events = events'; here = ap (after s fault p) h ∙ made going st; count = count'; holds = holds' }
-
-      -- the run ends with the step
-      pub turn_end : (n : ℕ) (outcome : Outcome) → rounds + 1 ≤ n → ended outcome ≡ status_after e.sequel e.value → EndsAs n (record { outcome = outcome; state = applied state e; words = words' }) held'
-      turn_end n outcome h st =
-          ends_as n (applied state e) events' (ended outcome) words' held' (ended_stays s fault p _ outcome (rounds + 1) n h (made (ended outcome) st)) count' holds'
+  ended_so : (status : Status) (state' : State) (events' : List ℕ) (words : ℕ) (held' : List ℕ)
+      → run r.budget ≡ at (machine_of state' events') status → length events' ≡ words → held' ≡ put buffer 0 events'
+      → Finished (settled status) (record { state = state'; words = words }) held'
+  ended_so status state' events' words held' here count holds = record { is = rw (here, ← count); holds = rw here holds }
 
   -- the budget is used up
-  pub turn_none : (n : ℕ) (rounds : ℕ) (state : State) (words : ℕ) (held : List ℕ) → Reached rounds state words held → rounds ≡ n → EndsAs n (record { outcome = Spent; state = state; words = words }) held
-  turn_none n rounds state words held r h =
-      ends_as n state r.events going words held (ap (after s fault p) (sym h) ∙ r.here) r.count r.holds
+  pub spent : r.budget ≤ state.steps → Finished Spent point held
+  spent h =
+      let all = x.reached.ready.in_budget in
+      let steps : r.budget ≡ state.steps = omega arith in
+      ended_so going state events point.words held (ap run steps ∙ x.reached.here) x.reached.count x.holds
+
+  module _ (e : Effect) (eq : e ≡ effect_in r state (eqb place state.branches)) where
+    effect_is : e ≡ effect_from (setting_of r) (Inverted place) state
+    unfolding effect_from
+    effect_is = eq
+
+    pub small : Small r.header.nodes e
+    small =
+        let node = node_at r.table.now state.node in
+        let flips = eqb place state.branches in
+        let i = x.reached.ready.node in
+        let n = named state.registers r.inputs.now state.reads state.node flips r.header.nodes i node (node_in r state.node i) in
+        rw eq
+        (record { register = n.0; next = n.1; counts = counts state.registers r.inputs.now state.reads state.node flips node })
+
+    module _ (below : state.steps < r.budget) where
+      pub takes : r.budget < 2 ^ 64 → Takes state e
+      takes h =
+          let n = small in
+          let ready = x.reached.ready in
+          record { register = n.register; steps = omega arith; branches = omega arith; reads = omega arith }
+
+      round : run (state.steps + 1) ≡ followed r.room state events e
+      unfolding run_of
+      round =
+          after_more (setting_of r) (Inverted place) _ state.steps ∙ ap (next (setting_of r) (Inverted place)) x.reached.here
+          ∙ next_going (setting_of r) (Inverted place) _ ∙ step_effect (setting_of r) (Inverted place) state events
+          ∙ ap (followed r.room state events) (sym effect_is)
+
+      -- a run that has ended by a step stays so
+      stays : (state' : State) (events' : List ℕ) (outcome : Outcome) (words : ℕ) (held' : List ℕ)
+          → run (state.steps + 1) ≡ at (machine_of state' events') (ended outcome) → length events' ≡ words → held' ≡ put buffer 0 events'
+          → Finished outcome (record { state = state'; words = words }) held'
+      unfolding run_of
+      stays state' events' outcome words held' stops count holds =
+          ended_so (ended outcome) state' events' words held'
+          (ended_stays (setting_of r) (Inverted place) _ _ outcome (state.steps + 1) r.budget (omega arith) stops) count holds
+
+      -- an event for which there is no room stops the run
+      pub full : (held' : List ℕ) → words_after e point.words r.room ≡ None → held' ≡ with_event e point.words r.room held
+          → Finished Full point held'
+      full held' none with =
+          let (lacks, same) = no_room e point.words r.room held (has_room e.sequel point.words r.room) none in
+          stays state events Full point.words held' (round ∙ (rw (x.reached.count, lacks))) x.reached.count (with ∙ same ∙ x.holds)
+
+      module _ (words' : ℕ) (held' : List ℕ) (some : words_after e point.words r.room ≡ Some words')
+          (with : held' ≡ with_event e point.words r.room held) where
+        wrote : (has_room e.sequel point.words r.room ≡ true) × (words' ≡ point.words + length (event_words e.sequel e.value))
+            × (with_event e point.words r.room held ≡ put held point.words (event_words e.sequel e.value))
+        wrote = some_room e point.words r.room held (has_room e.sequel point.words r.room) words' some
+
+        events' : List ℕ
+        events' = events ++ event_words e.sequel e.value
+
+        made : (status : Status) → status ≡ status_after e.sequel e.value
+            → run (state.steps + 1) ≡ at (machine_of (applied state e) events') status
+        unfolding events'
+        made status st = round ∙ rw (x.reached.count, wrote.0, st)
+
+        count' : length events' ≡ words'
+        unfolding events'
+        count' = length-append events _ ∙ ap (λ (k : ℕ). k + length (event_words e.sequel e.value)) x.reached.count ∙ sym wrote.1
+
+        holds' : held' ≡ put buffer 0 events'
+        unfolding events'
+        holds' =
+            with ∙ wrote.2 ∙ ap (λ (l : List ℕ). put l point.words (event_words e.sequel e.value)) x.holds
+            ∙ put-at buffer 0 point.words events _ (omega (arith, x.reached.count))
+
+        -- the run goes on
+        pub on : outcome_of e ≡ None → Standing r place buffer (record { state = applied state e; words = words' }) held'
+        on none =
+            let n = small in
+            let ready = x.reached.ready in
+            record {
+              reached = record {
+                ready = record { node = n.next; in_budget = omega arith; branches = omega arith; reads = omega arith };
+                events = events';
+                here = made going (sym (ap status_of none));
+                count = count';
+              };
+              holds = holds';
+            }
+
+        -- the run ends with the step
+        pub ends : (outcome : Outcome) → outcome_of e ≡ Some outcome
+            → Finished outcome (record { state = applied state e; words = words' }) held'
+        ends outcome is = stays (applied state e) events' outcome words' held' (made (ended outcome) (sym (ap status_of is))) count' holds'

@@ -7,17 +7,10 @@ use Rattle.graph.specs.Nodes.{node_at}
 use Rattle.graph.specs.Checks.{runnable_check}
 use Rattle.bench.specs.Steps.{Machine, Setting}
 use Rattle.bench.specs.Runs.{run_of, settled, most_steps}
-use Rattle.bench.specs.declared.CampaignAnswer.{CampaignAnswer}
-use Rattle.bench.specs.declared.CampaignAnswer.TheVariants.{Scored, Refused}
 use Rattle.bench.specs.declared.Fault.TheVariants.{Undisturbed, Inverted}
 use Rattle.bench.specs.declared.Outcome.{Outcome}
 use Rattle.bench.specs.declared.Outcome.TheVariants.{Returned, Caught, Spent, Full}
 use Rattle.bench.specs.declared.Score.{Score}
-
--- document 01's numbers for each case of a campaign
-abbrev pub campaign_of : CampaignAnswer → Answer Score
-campaign_of (Scored score) = given score
-campaign_of (Refused number place) = refused number place
 
 abbrev pub prefix_of : List ℕ → List ℕ → Bool
 prefix_of [] reference = true
@@ -44,11 +37,16 @@ class_of value reference Spent events = unended
 
 -- a score with one position more, of this class
 abbrev pub tallied : Class → Score → Score
-tallied caught s = record { positions = s.positions + 1; caught = s.caught + 1; late = s.late; harmless = s.harmless; changed = s.changed; unended = s.unended }
-tallied late s = record { positions = s.positions + 1; caught = s.caught; late = s.late + 1; harmless = s.harmless; changed = s.changed; unended = s.unended }
-tallied harmless s = record { positions = s.positions + 1; caught = s.caught; late = s.late; harmless = s.harmless + 1; changed = s.changed; unended = s.unended }
-tallied changed s = record { positions = s.positions + 1; caught = s.caught; late = s.late; harmless = s.harmless; changed = s.changed + 1; unended = s.unended }
-tallied unended s = record { positions = s.positions + 1; caught = s.caught; late = s.late; harmless = s.harmless; changed = s.changed; unended = s.unended + 1 }
+tallied caught s =
+    record { positions = s.positions + 1; caught = s.caught + 1; late = s.late; harmless = s.harmless; changed = s.changed; unended = s.unended }
+tallied late s =
+    record { positions = s.positions + 1; caught = s.caught; late = s.late + 1; harmless = s.harmless; changed = s.changed; unended = s.unended }
+tallied harmless s =
+    record { positions = s.positions + 1; caught = s.caught; late = s.late; harmless = s.harmless + 1; changed = s.changed; unended = s.unended }
+tallied changed s =
+    record { positions = s.positions + 1; caught = s.caught; late = s.late; harmless = s.harmless; changed = s.changed + 1; unended = s.unended }
+tallied unended s =
+    record { positions = s.positions + 1; caught = s.caught; late = s.late; harmless = s.harmless; changed = s.changed; unended = s.unended + 1 }
 
 abbrev pub no_score : Score
 no_score = record { positions = 0; caught = 0; late = 0; harmless = 0; changed = 0; unended = 0 }

@@ -1,29 +1,17 @@
 -- Document 01, "Running and scoring": what one step does, as an effect on the machine that is small enough to hand back by value.
 -- Only contracts of private functions cite this file: no public promise rests on it. Assumes nothing.
-use Rattle.std.specs.Prelude.{ℕ, ◌+◌, ◌*◌, Bool, true, cond, List, [], ◌∷◌, nat_le, slice_index, slice_set}
-use Rattle.graph.specs.Nodes.{Node, go, branch, ret, stop, const, op, input, output, register, constant, node_of, Operand}
-use Rattle.graph.specs.Accepted.{NodeIn}
+use Rattle.std.specs.Prelude.{ℕ, ◌+◌, ◌^◌, ◌<◌, Bool, true, cond, Option, Some, None, List, [], ◌∷◌, length, nat_le, slice_index, slice_set}
+use Rattle.words.specs.Buffer.{put}
+use Rattle.graph.specs.Nodes.{Node, go, branch, ret, stop, const, op, input, output, register, constant, Operand}
 use Rattle.bench.specs.Words.{operate, compare}
 use Rattle.bench.specs.Steps.{Machine, Setting, Status, going, ended, inverts, flip}
 use Rattle.bench.specs.declared.Fault.{Fault}
 use Rattle.bench.specs.declared.State.{State}
+use Rattle.bench.specs.declared.Outcome.{Outcome}
 use Rattle.bench.specs.declared.Outcome.TheVariants.{Returned, Caught}
 use Rattle.bench.specs.declared.steps.Effect.{Effect}
-use Rattle.bench.specs.declared.steps.Row.{Row}
 use Rattle.bench.specs.declared.steps.Sequel.{Sequel}
 use Rattle.bench.specs.declared.steps.Sequel.TheVariants as sequel
-
--- the six words of node n of a table
-abbrev pub row_at : List ℕ → ℕ → Row
-row_at table n =
-    record { kind = slice_index table (6 * n); v = slice_index table (6 * n + 1); w = slice_index table (6 * n + 2); x = slice_index table (6 * n + 3); y = slice_index table (6 * n + 4); z = slice_index table (6 * n + 5) }
-
-abbrev pub node_of_row : Row → Node
-node_of_row r = node_of r.kind r.v r.w r.x r.y r.z
-
--- the registers that a node reads and sets are below 64
-abbrev pub RegistersIn : Node → Type 0
-RegistersIn node = (nodes : ℕ) × NodeIn 64 nodes node
 
 -- what a branch compares its register with
 abbrev pub comparand : List ℕ → Operand → ℕ
@@ -70,17 +58,50 @@ has_room (sequel.Event port) words room = nat_le (words + 2) room
 has_room sequel.Returned words room = true
 has_room sequel.Caught words room = true
 
+-- how the run ends, if it does
+abbrev pub outcome_by : Sequel → ℕ → Option Outcome
+outcome_by sequel.On value = None
+outcome_by (sequel.Event port) value = None
+outcome_by sequel.Returned value = Some (Returned value)
+outcome_by sequel.Caught value = Some Caught
+
 -- whether the run goes on
+abbrev pub status_of : Option Outcome → Status
+status_of None = going
+status_of (Some outcome) = ended outcome
+
 abbrev pub status_after : Sequel → ℕ → Status
-status_after sequel.On value = going
-status_after (sequel.Event port) value = going
-status_after sequel.Returned value = ended (Returned value)
-status_after sequel.Caught value = ended Caught
+status_after sequel value = status_of (outcome_by sequel value)
+
+-- the words written after the step, if its event has room
+abbrev pub words_after : Effect → ℕ → ℕ → Option ℕ
+words_after e words room = cond (has_room e.sequel words room) (Some (words + length (event_words e.sequel e.value))) None
+
+-- what the buffer holds then
+abbrev pub with_event : Effect → ℕ → ℕ → List ℕ → List ℕ
+with_event e words room events = cond (has_room e.sequel words room) (put events words (event_words e.sequel e.value)) events
+
+-- how the step ends the run, if it does
+abbrev pub outcome_of : Effect → Option Outcome
+outcome_of e = outcome_by e.sequel e.value
 
 -- the state after the step
 abbrev pub applied : State → Effect → State
 applied state e =
-    record { registers = slice_set state.registers e.register e.value; node = e.next; steps = state.steps + 1; branches = state.branches + e.branches; reads = state.reads + e.reads }
+    record {
+      registers = slice_set state.registers e.register e.value;
+      node = e.next;
+      steps = state.steps + 1;
+      branches = state.branches + e.branches;
+      reads = state.reads + e.reads;
+    }
+
+-- counts and a register that the step fits
+pub record Takes (state : State) (e : Effect) : Type 0 where
+  pub register : e.register < 64
+  pub steps : state.steps + 1 < 2 ^ 64
+  pub branches : state.branches + e.branches < 2 ^ 64
+  pub reads : state.reads + e.reads < 2 ^ 64
 
 -- a state and the words of the events so far
 abbrev pub machine_of : State → List ℕ → Machine

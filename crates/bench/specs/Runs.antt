@@ -11,7 +11,6 @@ use Rattle.bench.specs.declared.Outcome.{Outcome}
 use Rattle.bench.specs.declared.Outcome.TheVariants.{Spent}
 use Rattle.bench.specs.declared.RunAnswer.{RunAnswer}
 use Rattle.bench.specs.declared.State.{State}
-use Rattle.bench.specs.declared.Verdict.TheVariants.{Ran, Refused}
 
 -- one step where the run is going; a run that has ended stays as it is
 abbrev pub next_of : Setting → Fault → Machine → Status → Progress
@@ -39,11 +38,10 @@ run_of s fault entry budget = after s fault (at (start entry) going) budget
 abbrev pub state_of : Machine → State
 state_of m = record { registers = m.registers; node = m.node; steps = m.steps; branches = m.branches; reads = m.reads }
 
--- what a run answers: document 01's values, an event being two words, and on a refusal the number and the place beside a state and a count of zeros
-abbrev pub answer_of : Answer Progress → RunAnswer
-answer_of (given p) =
-    record { verdict = Ran (settled p.status); state = state_of p.machine; events = length p.machine.events / 2 }
-answer_of (refused number place) = record { verdict = Refused number place; state = state_of (start 0); events = 0 }
+-- what a run answers: document 01's values, an event being two words
+abbrev pub answered : Answer Progress → Answer RunAnswer
+answered (given p) = given (record { outcome = settled p.status; state = state_of p.machine; events = length p.machine.events / 2 })
+answered (refused number place) = refused number place
 
 -- the largest budget
 abbrev pub most_steps : ℕ

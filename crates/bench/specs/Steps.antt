@@ -37,14 +37,22 @@ operand_of m (constant k) = k
 
 -- the machine at the next node, a register set, one step counted
 abbrev pub setting : Machine → ℕ → ℕ → ℕ → Machine
-setting m d v next = record { registers = slice_set m.registers d v; node = next; steps = m.steps + 1; branches = m.branches; reads = m.reads; events = m.events }
+setting m d v next =
+    record { registers = slice_set m.registers d v; node = next; steps = m.steps + 1; branches = m.branches; reads = m.reads; events = m.events }
 
 -- what a node with one edge does: `in` takes the next input word, or 0 when none is left, and counts it either way
 abbrev pub act : List ℕ → Action → ℕ → Machine → Machine
 act inputs (const d k) next m = setting m d k next
 act inputs (op o d a b) next m = setting m d (operate o (get m a) (get m b)) next
 act inputs (input d) next m =
-    record { registers = slice_set m.registers d (slice_index inputs m.reads); node = next; steps = m.steps + 1; branches = m.branches; reads = m.reads + 1; events = m.events }
+    record {
+      registers = slice_set m.registers d (slice_index inputs m.reads);
+      node = next;
+      steps = m.steps + 1;
+      branches = m.branches;
+      reads = m.reads + 1;
+      events = m.events;
+    }
 act inputs (output port a) next m =
     record { registers = m.registers; node = next; steps = m.steps + 1; branches = m.branches; reads = m.reads; events = m.events ++ (port ∷ get m a ∷ []) }
 

@@ -4,18 +4,20 @@
 mod campaigns;
 mod machine;
 mod operators;
+mod runner;
 mod runs;
 mod scores;
 mod steps;
 
 pub use campaigns::campaign;
 pub use machine::run;
+use runner::Runner;
 
 // The largest budget.
 const MOST_STEPS: usize = 100000;
 
 // The machine's state: its registers, the node to execute next, and what has been counted so far.
-#[derive(Clone, Copy)]
+#[derive(Clone, Copy, Debug, PartialEq, Eq)]
 pub struct State {
     pub registers: [u32; 64],
     pub node: usize,
@@ -25,7 +27,7 @@ pub struct State {
 }
 
 // How a run ends.
-#[derive(Clone, Copy)]
+#[derive(Clone, Copy, Debug, PartialEq, Eq)]
 pub enum Outcome {
     Returned(u32),
     Caught,
@@ -33,30 +35,24 @@ pub enum Outcome {
     Full,
 }
 
-// The one branch that goes to its other target, by its place, from 0, among the branches executed.
-#[derive(Clone, Copy)]
+// The one branch that goes to its other target, by its place, from 0, among the branches executed. An enum of its own, as document 01 has
+// it.
+#[derive(Clone, Copy, Debug, PartialEq, Eq)]
 pub enum Fault {
     Undisturbed,
     Inverted(usize),
 }
 
-// Whether a run was made, and how it ended, or the refusal's number and place.
-#[derive(Clone, Copy)]
-pub enum Verdict {
-    Ran(Outcome),
-    Refused(u32, usize),
-}
-
-// A run's answer: the verdict, and beside it the last state and the number of events, all 0 on a refusal.
-#[derive(Clone, Copy)]
+// A run's answer: how it ended, beside it the last state and the number of events.
+#[derive(Clone, Copy, Debug, PartialEq, Eq)]
 pub struct RunAnswer {
-    pub verdict: Verdict,
+    pub outcome: Outcome,
     pub state: State,
     pub events: usize,
 }
 
 // The line of the release record: the positions tried, and how many fell into each class.
-#[derive(Clone, Copy)]
+#[derive(Clone, Copy, Debug, Default, PartialEq, Eq)]
 pub struct Score {
     pub positions: usize,
     pub caught: usize,
@@ -64,11 +60,4 @@ pub struct Score {
     pub harmless: usize,
     pub changed: usize,
     pub unended: usize,
-}
-
-// What a campaign answers: the score, or the refusal's number and place.
-#[derive(Clone, Copy)]
-pub enum CampaignAnswer {
-    Scored(Score),
-    Refused(u32, usize),
 }

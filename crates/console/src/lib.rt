@@ -1,10 +1,15 @@
-// What a program needs around the desk: buffers, and its arguments in cells. What they are is the operating system's to say.
+// What a program needs around the desk: buffers, its arguments in cells, and its input. What the last two are is the operating
+// system's to say.
 #![tactic(auto)]
 
-ghost use Rattle.std.specs.Prelude.{◌≤◌, ◌≡◌, length, replicate};
+ghost use Rattle.std.specs.Prelude.{◌≤◌, ◌≡◌, IfOk, length, replicate};
 
 use std::env::FillError;
-use std::rt::Env;
+use std::io;
+use std::io::Read;
+use std::rt::{Env, Stdin};
+
+// Three functions, not one over a size: each size is a promise, of `unique_console_file_space` and its two fellows.
 
 // Room for the bytes of a file that decide.
 pub fn file_space() -> [u8; 32768]
@@ -32,24 +37,31 @@ pub fn text_space() -> [u8; 196608]
 pub fn arguments(rt: &HostRuntime, cells: &mut [u8]) -> usize
     ensures { result ≤ length cells.new }
 {
-    let count = cells.len() / 16 + 1;
-    let mut i = 1;
-    let mut at = 0;
-    while i < count {
-        let text = at + 1;
-        let end = at + 16;
-        let size = match rt.arg(i, &mut cells[text..end]) {
-            Ok(size) => size,
+    let mut used = 0;
+    for (i, cell) in cells.chunks_exact_mut(16).enumerate() {
+        let length = match rt.arg(i + 1, &mut cell[1..]) {
+            Ok(length) => length,
             Err(FillError::TooLong) => 0,
-            Err(FillError::NotPresent) => return at,
+            Err(FillError::NotPresent) => break,
         };
-        cells[at] = length_byte(size);
-        at = end;
-        i += 1;
+        cell[0] = length as u8;
+        used += 16;
     }
-    at
+    used
 }
 
-fn length_byte(size: usize) -> u8 {
-    if size < 16 { size as u8 } else { 0 }
+// Reads standard input into the buffer until it is full or the input ends. Answers how many bytes it read. By `while`: each read says how
+// far it came.
+pub fn read_full(input: &mut Stdin, bytes: &mut [u8]) -> io::Result<usize>
+    ensures { IfOk result (λ size. size ≤ length bytes.new) }
+{
+    let mut size = 0;
+    while size < bytes.len() {
+        let more = input.read(&mut bytes[size..])?;
+        if more == 0 {
+            break;
+        }
+        size += more;
+    }
+    Ok(size)
 }

@@ -1,116 +1,76 @@
--- The ways through an argument's cell, and through a comparison of two texts.
+-- The ways through an argument's cell, and through a row of arguments.
 -- Assumes nothing.
-use mathlib.Core.Path.{◌≡◌, refl, sym, ap, ◌∙◌}
-use Prim.Native.Nat.{ℕ, zero, suc, ◌+◌, ◌-◌, ◌*◌, ◌/◌, ◌≤◌, ◌<◌}
-use native.Mathlib.Numerals.{add-one}
-use native.Mathlib.Nat.{add-sub_cancel_left}
-use native.Mathlib.Omega.{arith}
-use mathlib.Core.Bool.{Bool, true, false, ◌&&◌}
-use lib.Dec.{eqb}
-use mathlib.Core.List.{List, [], ◌∷◌}
-use lib.ListN.{length, get_or, take, drop, set, drop_of_length-le, length-append}
-use lib.Seq.{drop-cons}
-use borrow.Author.Tests.{lt-leb, le-leb, lt-ltb, le-ltb, eq-eqb, ne_eqb}
-use Rattle.desk.specs.Arguments.{argument, same_text, is_number, other_from, word_of, words_of, words_in}
-use Rattle.desk.specs.declared.Wanted.{Wanted}
-use Rattle.desk.specs.declared.Words.TheVariants.{All, Bad}
+use Rattle.std.proofs.Common.{◌≡◌, ℕ, suc, ◌+◌, ◌-◌, ◌*◌, ◌/◌, ◌≤◌, ◌<◌, refl, Bool, true, false, leb, List, [], length, get_or, take, drop, set, ap, ◌∙◌, arith, add-one, None, Some, Ok, Err}
+use Rattle.std.proofs.Math.Nat.{add-sub_cancel_left}
+use Rattle.std.proofs.Math.Bridge.{le_prop}
+use Rattle.std.proofs.lemmas.List.{take_more_set}
+use borrow.Author.Tests.{lt-leb, le-leb, lt-ltb, le-ltb, leb-true, leb-false}
 use Rattle.text.specs.Decimals.{value_of}
-use Rattle.words.specs.Buffer.{put}
-use Rattle.words.proofs.Puts.{put_nil, put_one, put-at}
+use Rattle.desk.specs.Arguments.{argument, mode_of, most_room, with_room, settings_of, other_from, words_of, words_in}
+use Rattle.desk.specs.declared.settings.Settings.{Settings}
+use Rattle.desk.specs.declared.settings.Wanted.{Wanted}
 
 module _ (cells : List ℕ) (i : ℕ) where
-  pub cell_missing : length cells < 16 * i + 16 → [] ≡ argument cells i
+  pub cell_missing : length cells / 16 ≤ i → [] ≡ argument cells i
   unfolding argument
-  cell_missing h = rw (lt-leb (16 * i + 16) (length cells) h)
+  cell_missing h = rw (lt-leb (16 * i + 16) (length cells) (omega arith))
 
-  pub cell_long : (size : ℕ) → 16 * i + 16 ≤ length cells → size ≡ get_or cells (16 * i) 0 → 16 ≤ size → [] ≡ argument cells i
-  unfolding argument
-  cell_long size h e k =
-      let large : 16 ≤ get_or cells (16 * i) 0 = omega arith in
-      rw (le-leb (16 * i + 16) (length cells) h, le-ltb (get_or cells (16 * i) 0) 16 large)
+  module _ (size : ℕ) (h : i < length cells / 16) (e : size ≡ get_or cells (16 * i) 0) where
+    pub cell_long : 16 ≤ size → [] ≡ argument cells i
+    unfolding argument
+    cell_long k = rw (le-leb (16 * i + 16) (length cells) (omega arith), ← e, le-ltb size 16 k)
 
-  pub cell_text : (size : ℕ) → 16 * i + 16 ≤ length cells → size ≡ get_or cells (16 * i) 0 → size < 16
-      → take (16 * i + 1 + size - (16 * i + 1)) (drop (16 * i + 1) cells) ≡ argument cells i
-  unfolding argument
-  cell_text size h e k =
-      let short : get_or cells (16 * i) 0 < 16 = omega arith in
-      rw (add-sub_cancel_left (16 * i + 1) size, le-leb (16 * i + 16) (length cells) h, lt-ltb (get_or cells (16 * i) 0) 16 short, e)
+    pub cell_text : size < 16 → take (16 * i + 1 + size - (16 * i + 1)) (drop (16 * i + 1) cells) ≡ argument cells i
+    unfolding argument
+    cell_text k = rw (add-sub_cancel_left (16 * i + 1) size, le-leb (16 * i + 16) (length cells) (omega arith), ← e, lt-ltb size 16 k)
 
-pub same-sized : (a b : List ℕ) → (length a ≡ length b → ⊥) → false ≡ same_text a b
-same-sized [] [] h = absurd (h refl)
-same-sized [] (y ∷ b) h = refl
-same-sized (x ∷ a) [] h = refl
-same-sized (x ∷ a) (y ∷ b) h = by (eqb x y) (same-sized a b (λ e. h (ap suc e)))
+-- settings that the first three arguments name
+pub settings_ready : (cells : List ℕ) (s : Settings) → mode_of (argument cells 0) ≡ Some s.mode → value_of (argument cells 1) ≡ Some s.budget
+    → value_of (argument cells 2) ≡ Some s.room → Ok s ≡ settings_of cells
+unfolding settings_of
+settings_ready cells s e f g = rw (e, f, g) (by (leb s.room most_room) refl)
   where
-    by : (t : Bool) → false ≡ same_text a b → false ≡ (t && same_text a b)
-    by true e = e
-    by false e = refl
+    by : (few : Bool) (h : leb s.room most_room ≡ few) → Ok s ≡ with_room s.mode s.budget s.room few h
+    by true h = ap (λ (p : s.room ≤ most_room). Ok (record { mode = s.mode; budget = s.budget; room = s.room; room_in = p })) (le_prop s.room_in (leb-true s.room most_room h))
+    by false h = let large : most_room < s.room = leb-false s.room most_room h in absurd (omega (arith, s.room_in))
 
-module _ (a b : List ℕ) (i : ℕ) (h : i < length a) (k : i < length b) where
-  pub same_not : (get_or a i 0 ≡ get_or b i 0 → ⊥) → false ≡ same_text (drop i a) (drop i b)
-  same_not e = rw (drop-cons a i 0 h, drop-cons b i 0 k, ne_eqb (get_or a i 0) (get_or b i 0) e)
+-- there are too many arguments from `from` on
+pub words_end : (cells : List ℕ) (from count : ℕ) → count ≡ length cells / 16 - from → 4096 < count → words_in cells from ≡ Err (Wanted.End (from + 4096 + 1))
+unfolding words_in
+words_end cells from count c h = rw (lt-leb (length cells / 16) (from + 4096) (omega arith))
 
-  pub same_more : get_or a i 0 ≡ get_or b i 0 → same_text (drop i a) (drop i b) ≡ same_text (drop (i + 1) a) (drop (i + 1) b)
-  same_more e = rw (add-one, drop-cons a i 0 h, drop-cons b i 0 k, eq-eqb (get_or a i 0) (get_or b i 0) e)
+-- of the arguments from `from` on, which are not too many, the first k are numbers
+pub record Passed (cells : List ℕ) (from count k : ℕ) : Type 0 where
+  pub count_is : count ≡ length cells / 16 - from
+  pub few : count ≤ 4096
+  pub found : other_from cells count from ≡ other_from cells (count - k) (from + k)
 
-pub same_whole : (a b : List ℕ) (i : ℕ) → length a ≤ i → length b ≤ i → true ≡ same_text (drop i a) (drop i b)
-same_whole a b i h k = rw (drop_of_length-le a h, drop_of_length-le b k)
+-- the next is no number, the next is one, and there is no next
+module _ {cells : List ℕ} {from count k : ℕ} (p : Passed cells from count k) where
+  pub words_bad : k < count → value_of (argument cells (from + k)) ≡ None → words_in cells from ≡ Err (Wanted.Word (from + k + 1))
+  unfolding words_in other_from
+  words_bad h none =
+      let left : count - k ≡ suc (count - (k + 1)) = omega arith in
+      let first : other_from cells count from ≡ from + k = p.found ∙ rw (left, none) in
+      rw (le-leb (length cells / 16) (from + 4096) (omega arith), ← p.count_is, first, lt-leb (length cells / 16) (from + k) (omega arith))
 
--- the ways through a row of arguments, `left` of them from i upward
-module _ (cells : List ℕ) where
-  pub other_here : (i count : ℕ) (is : Bool) → is ≡ is_number (value_of (argument cells i)) → is ≡ false → i < count → i ≡ other_from cells (count - i) i
+  pub words_next : k < count → (word : ℕ) → value_of (argument cells (from + k)) ≡ Some word → Passed cells from count (k + 1)
   unfolding other_from
-  other_here i count is e f h =
-      let left : count - i ≡ suc (count - (i + 1)) = omega arith in
-      let this : is_number (value_of (argument cells i)) ≡ false = sym e ∙ f in
-      rw (left, this)
+  words_next h word some =
+      let left : count - k ≡ suc (count - (k + 1)) = omega arith in
+      let next : from + k + 1 ≡ from + (k + 1) = omega arith in
+      record { count_is = p.count_is; few = p.few; found = p.found ∙ rw (left, some, next) }
 
-  pub other_next : (i count : ℕ) (is : Bool) → is ≡ is_number (value_of (argument cells i)) → is ≡ true → i < count
-      → other_from cells (count - i) i ≡ other_from cells (count - (i + 1)) (i + 1)
-  unfolding other_from
-  other_next i count is e f h =
-      let left : count - i ≡ suc (count - (i + 1)) = omega arith in
-      let this : is_number (value_of (argument cells i)) ≡ true = sym e ∙ f in
-      rw (left, this)
+  pub words_all : (words : List ℕ) → count ≡ k → take k words ≡ words_of cells from k → words_in cells from ≡ Ok (take count words)
+  unfolding words_in other_from
+  words_all words h written =
+      let left : count - k ≡ 0 = omega arith in
+      let first : other_from cells count from ≡ from + k = p.found ∙ rw left in
+      rw (le-leb (length cells / 16) (from + 4096) (omega arith), ← p.count_is, first, le-leb (length cells / 16) (from + k) (omega arith), h, written)
 
-  pub other_none : (i count : ℕ) → count ≤ i → i ≡ other_from cells (count - i) i
-  unfolding other_from
-  other_none i count h = let left : count - i ≡ 0 = omega arith in rw left
-
-  pub words_length : (from k : ℕ) → length (words_of cells from k) ≡ k
-  unfolding words_of
-  words_length from zero = refl
-  words_length from (suc k) =
-      length-append (words_of cells from k) (word_of (value_of (argument cells (from + k))) ∷ [])
-      ∙ ap (λ (n : ℕ). n + 1) (words_length from k) ∙ add-one k
-
-  pub words_none : (l : List ℕ) (from : ℕ) → l ≡ put l 0 (words_of cells from 0)
-  unfolding words_of
-  words_none l from = sym (put_nil l 0)
-
-  pub words_more : (l m : List ℕ) (from k w : ℕ) → m ≡ put l 0 (words_of cells from k) → w ≡ word_of (value_of (argument cells (from + k)))
-      → set m k w ≡ put l 0 (words_of cells from (k + 1))
-  unfolding words_of
-  words_more l m from k w e f =
-      let there : k ≡ 0 + length (words_of cells from k) = omega (arith, words_length from k) in
-      rw (add-one, e, f)
-      (sym (put_one (put l 0 (words_of cells from k)) k (word_of (value_of (argument cells (from + k)))))
-      ∙ put-at l 0 k (words_of cells from k) (word_of (value_of (argument cells (from + k))) ∷ []) there)
-
--- the ways through counting the words that the last arguments are
-module _ (cells : List ℕ) (from : ℕ) where
-  pub words_end : from + 4096 < length cells / 16 → Bad (Wanted.End (from + 4097)) ≡ words_in cells from
-  unfolding words_in
-  words_end h = rw (lt-leb (length cells / 16) (from + 4096) h) (ap (λ (i : ℕ). Bad (Wanted.End i)) (omega arith))
-
-  module _ (left first : ℕ) (few : length cells / 16 ≤ from + 4096) (e : left ≡ length cells / 16 - from) (f : first ≡ other_from cells (from + left - from) from) where
-    first_is : first ≡ other_from cells (length cells / 16 - from) from
-    first_is = let g : from + left - from ≡ length cells / 16 - from = omega arith in f ∙ ap (λ (k : ℕ). other_from cells k from) g
-
-    pub words_bad : first < length cells / 16 → Bad (Wanted.Word (first + 1)) ≡ words_in cells from
-    unfolding words_in
-    words_bad h = rw (sym first_is, le-leb (length cells / 16) (from + 4096) few, lt-leb (length cells / 16) first h)
-
-    pub words_all : length cells / 16 ≤ first → All left ≡ words_in cells from
-    unfolding words_in
-    words_all h = rw (sym first_is, le-leb (length cells / 16) (from + 4096) few, le-leb (length cells / 16) first h, e)
+-- the words passed, and the next one
+pub words_more : (cells words : List ℕ) (from k word : ℕ) → k < length words → take k words ≡ words_of cells from k
+    → value_of (argument cells (from + k)) ≡ Some word → take (k + 1) (set words k word) ≡ words_of cells from (k + 1)
+unfolding words_of
+words_more cells words from k word room written some =
+    take_more_set words k word room ∙ rw (add-one, written, some)

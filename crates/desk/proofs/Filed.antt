@@ -1,12 +1,8 @@
 -- Whatever graph `hfile` loads, as it is read or hardened, its file is printed: the graph is runnable, and the text has room.
 -- Assumes nothing.
-use mathlib.Core.Path.{◌≡◌}
-use mathlib.Core.Bool.{Bool, true, false}
-use mathlib.Core.List.{List}
-use Prim.Native.Nat.{ℕ, ◌≤◌}
-use native.Mathlib.Omega.{arith}
+use Rattle.std.proofs.Common.{◌≡◌, List, length, replicate, ℕ, ◌≤◌, arith}
+use Rattle.std.proofs.lemmas.List.{length-replicate}
 use borrow.Author.Tests.{le-leb}
-use lib.ListN.{length, replicate, length-replicate}
 use Rattle.words.specs.Answer.{given}
 use Rattle.words.proofs.Answers.{Of, of_given, of_then, when_given, Any}
 use Rattle.graph.specs.Checks.{runnable_check}
@@ -16,7 +12,10 @@ use Rattle.file.proofs.Reader.{read_runnable}
 use Rattle.file.proofs.Writer.{file_longest}
 use Rattle.harden.specs.Hardened.{harden_answer}
 use Rattle.harden.proofs.Runnable.{output_runnable}
-use Rattle.desk.specs.Programs.{table_words, Graph, read_graph, harden_graph, graph_in, file_in, text_bytes}
+use Rattle.desk.specs.declared.loading.Graph.{Graph}
+use Rattle.desk.specs.declared.settings.Mode.{Mode}
+use Rattle.desk.specs.declared.settings.Mode.TheVariants.{Plain, Hardened}
+use Rattle.desk.specs.Programs.{table_words, read_graph, harden_graph, graph_in, file_in, text_bytes}
 use Rattle.desk.proofs.Fits.{answered, graph_worded}
 
 abbrev Runs : Graph → Type 0
@@ -38,18 +37,18 @@ harden_runs g =
     of_then _ (answered (harden_answer h.registers h.nodes h.entry g.table table_words)) λ k e _.
     of_given (output_runnable h.registers h.nodes h.entry g.table (replicate table_words 0) k (rw zeros-length e))
 
-graph_runs : (hardened : Bool) (bytes : List ℕ) → Of Runs Any (graph_in hardened bytes)
+graph_runs : (mode : Mode) (bytes : List ℕ) → Of Runs Any (graph_in mode bytes)
 unfolding graph_in
-graph_runs true bytes = of_then harden_graph (read_runs bytes) λ g e _. harden_runs g
-graph_runs false bytes = read_runs bytes
+graph_runs Hardened bytes = of_then harden_graph (read_runs bytes) λ g e _. harden_runs g
+graph_runs Plain bytes = read_runs bytes
 
-pub file_printed : (hardened : Bool) (bytes : List ℕ) (g : Graph) → graph_in hardened bytes ≡ given g →
+pub file_printed : (mode : Mode) (bytes : List ℕ) (g : Graph) → graph_in mode bytes ≡ given g →
     file_in text_bytes g ≡ given (file_of g.header.registers g.header.nodes g.header.entry g.table)
 unfolding file_in write_answer
-file_printed hardened bytes g e =
+file_printed mode bytes g e =
     let h = g.header in
-    let runs = when_given e (graph_runs hardened bytes) in
+    let runs = when_given e (graph_runs mode bytes) in
     let size : ℕ = length (file_of h.registers h.nodes h.entry g.table) in
-    let longest : size ≤ 24605 = file_longest h.registers h.nodes h.entry g.table runs (when_given e (graph_worded hardened bytes)) in
+    let longest : size ≤ 24605 = file_longest h.registers h.nodes h.entry g.table runs (when_given e (graph_worded mode bytes)) in
     let room : size ≤ text_bytes = omega arith in
     rw (runs, le-leb size text_bytes room)

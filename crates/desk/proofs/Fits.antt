@@ -1,26 +1,19 @@
 -- The text that a program lends holds every answer it can give: whatever the arguments and the input, what the program prints of
 -- it is the whole text that is defined.
 -- Assumes nothing.
-use mathlib.Core.Path.{◌≡◌, refl, ap}
-use mathlib.Core.Bool.{Bool, true, false, cond, ◌&&◌}
-use mathlib.Core.List.{List, [], ◌∷◌}
-use mathlib.Core.Option.{Option, none, some}
-use Prim.Native.Nat.{ℕ, zero, suc, ◌+◌, ◌*◌, ◌%◌, ◌^◌, ◌≤◌, ◌<◌}
-use native.Mathlib.Omega.{arith}
+use Rattle.std.proofs.Common.{◌≡◌, refl, sym, ap, Bool, true, false, cond, ◌&&◌, leb, List, [], ◌∷◌, length, take, drop, replicate, length-append, length-take, ℕ, zero, suc, ◌+◌, ◌-◌, ◌*◌, ◌%◌, ◌^◌, ◌≤◌, ◌<◌, arith, None, Result, Ok, Err, IfOk, ok_or}
 use borrow.Author.Tests.{leb-true}
-use lib.Dec.{leb}
-use lib.ListN.{length, take, drop, replicate, length-append, length-take}
-use Rattle.words.specs.Answer.{Answer, given, refused, and_then}
-use Rattle.words.proofs.Answers.{Of, of_given, of_refused, of_demand, of_then, of_map, Any}
+use Rattle.words.specs.Answer.{Answer, given, refused, demand, and_then}
+use Rattle.words.proofs.Answers.{Of, of_given, of_refused, of_demand, of_then, of_map, when_given, Any}
 use Rattle.words.proofs.AllWords.{AllWords, words_append, words_take, words_drop, words_zeros}
 use Rattle.graph.specs.Nodes.{node_at}
-use Rattle.graph.specs.Checks.{runnable_check}
+use Rattle.graph.specs.Checks.{runnable_check, source_check}
 use Rattle.graph.specs.declared.Header.{Header}
 use Rattle.file.specs.Reading.{read_answer}
 use Rattle.file.specs.Writing.{file_of, write_answer}
 use Rattle.file.proofs.Writer.{written_room}
 use Rattle.file.proofs.Words.{read_words}
-use Rattle.harden.specs.Hardened.{harden_answer}
+use Rattle.harden.specs.Hardened.{harden_answer, hardened_count, source_of}
 use Rattle.harden.proofs.Words.{harden_words}
 use Rattle.bench.specs.Steps.{Progress}
 use Rattle.bench.specs.Runs.{run_answer, most_steps, settled, state_of}
@@ -35,22 +28,15 @@ use Rattle.text.specs.Decimals.{value_from, value_of}
 use Rattle.text.specs.Places.{Wrote}
 use Rattle.text.proofs.Lengths.{decimal-length, spaced-length, words_length}
 use Rattle.text.proofs.Writing.{wrote_fits}
-use Rattle.desk.specs.declared.Choice.{Choice}
-use Rattle.desk.specs.declared.Choice.TheVariants.{Chosen, Other}
 use Rattle.desk.specs.declared.Printed.{Printed}
-use Rattle.desk.specs.declared.FileMode.{FileMode}
-use Rattle.desk.specs.declared.Settings.{Settings}
-use Rattle.desk.specs.declared.Settings.TheVariants.{Ready, Wrong}
-use Rattle.desk.specs.declared.Wanted.{Wanted}
-use Rattle.desk.specs.declared.Words.{Words}
-use Rattle.desk.specs.declared.Words.TheVariants.{All, Bad}
-use Rattle.desk.specs.declared.Mode.{Mode}
-use Rattle.desk.specs.declared.Mode.TheVariants.{Plain, Hardened, Unknown}
-use Rattle.desk.specs.Arguments.{argument, mode_of, most_room, numbers_of, settings_by, settings_of, RoomIn, fault_of, file_mode_of, word_of, words_of, words_in}
+use Rattle.desk.specs.declared.loading.Graph.{Graph}
+use Rattle.desk.specs.declared.settings.Mode.{Mode}
+use Rattle.desk.specs.declared.settings.Mode.TheVariants.{Plain, Hardened}
+use Rattle.desk.specs.declared.settings.Wanted.{Wanted}
+use Rattle.desk.specs.Arguments.{argument, argument_count, most_room, most_words, settings_of, fault_of, word_of, words_of, other_from, words_in, then_asked, run_asked, score_asked, file_mode_of}
 use Rattle.desk.specs.Lines.{refusal_line, outcome_text, counts_text, run_text, score_line, complaint_line}
 use Rattle.desk.specs.Listing.{row_line, row_lines, listing}
-use Rattle.desk.specs.Programs.{table_words, Graph, read_graph, harden_graph, graph_in, text_of, list_text, run_on, progress_text, run_print, score_on, score_print, Print, output, complaint, with_words, with_fault, run_with, run_program, score_with, score_program, file_in, file_print, file_with, file_program, text_bytes, print_of, Shown, printed, complained}
-use Rattle.desk.proofs.Answers.{harden_room}
+use Rattle.desk.specs.Programs.{table_words, read_graph, harden_graph, graph_in, text_of, list_text, run_on, progress_text, run_print, score_on, score_print, Print, output, complaint, print_for, run_program, score_program, file_in, file_print, file_program, text_bytes, print_of, Shown, printed, complained}
 
 -- ---- lines
 
@@ -148,6 +134,23 @@ read_worded : (bytes : List ℕ) → Of Worded Any (read_graph bytes)
 unfolding read_graph
 read_worded bytes = of_then _ (answered (read_answer bytes table_words)) λ h e _. of_given (read_words bytes (replicate table_words 0) zeros)
 
+-- a hardened graph has its rows in its table
+room_by : (checked : Answer Unit) (fits : Bool) (n room : ℕ) (h k : Header) → fits ≡ leb (6 * n) room → h.nodes ≡ n
+    → and_then checked (λ _. demand {A = Header} fits 11 (6 * n) (given h)) ≡ given k → 6 * k.nodes ≤ room
+room_by (given tt) true n room h k f is e =
+    let same : h ≡ k = cc in
+    let fit : 6 * n ≤ room = leb-true (6 * n) room (sym f) in
+    omega (arith, ap (λ (x : Header). x.nodes) same)
+room_by (given tt) false n room h k f is e = let z : ◌≡◌ {A = ℕ} 0 1 = cc in absurd (omega arith)
+room_by (refused number place) fits n room h k f is e = let z : ◌≡◌ {A = ℕ} 0 1 = cc in absurd (omega arith)
+
+harden_room : (registers nodes entry : ℕ) (table : List ℕ) (room : ℕ) (k : Header) → harden_answer registers nodes entry table room ≡ given k → 6 * k.nodes ≤ room
+unfolding harden_answer
+harden_room registers nodes entry table room k e =
+    room_by (source_check registers nodes entry table) (leb (6 * hardened_count (source_of registers nodes entry table)) room)
+    (hardened_count (source_of registers nodes entry table)) room
+    (record { registers = registers + 2; nodes = hardened_count (source_of registers nodes entry table); entry = nodes }) k refl refl e
+
 harden_listed : (g : Graph) → Worded g → Of Listed Any (harden_graph g)
 unfolding harden_graph
 harden_listed g words =
@@ -158,14 +161,18 @@ harden_listed g words =
       harden_room h.registers h.nodes h.entry g.table table_words k e,
     )
 
-hardened_listed : (bytes : List ℕ) → Of Listed Any (graph_in true bytes)
+hardened_listed : (bytes : List ℕ) → Of Listed Any (graph_in Hardened bytes)
 unfolding graph_in
 hardened_listed bytes = of_then harden_graph (read_worded bytes) λ g e words. harden_listed g words
 
-pub graph_worded : (hardened : Bool) (bytes : List ℕ) → Of Worded Any (graph_in hardened bytes)
+-- the rows of a graph that was read and hardened lie in its table
+pub hardened_room : (bytes : List ℕ) (g : Graph) → graph_in Hardened bytes ≡ given g → 6 * g.header.nodes ≤ table_words
+hardened_room bytes g e = (when_given e (hardened_listed bytes)).1
+
+pub graph_worded : (mode : Mode) (bytes : List ℕ) → Of Worded Any (graph_in mode bytes)
 unfolding graph_in
-graph_worded true bytes = of_map (λ g listed. listed.0) (λ number place _. tt) (hardened_listed bytes)
-graph_worded false bytes = read_worded bytes
+graph_worded Hardened bytes = of_map (λ g listed. listed.0) (λ number place _. tt) (hardened_listed bytes)
+graph_worded Plain bytes = read_worded bytes
 
 -- `hlist`
 pub list_fits : (bytes : List ℕ) → Fit (list_text bytes)
@@ -195,18 +202,18 @@ progress_fits : (p : Progress) → Told p → Fit (progress_text p)
 progress_fits p (held, few) =
     run_fits (settled p.status) (state_of p.machine) p.machine.events held.many held.registers few held.events
 
-run-print_fits : (hardened : Bool) (budget room : ℕ) (fault : Fault) (inputs bytes : List ℕ) → room ≤ most_room → AllWords inputs
-    → Fit (run_print hardened budget room fault inputs bytes)
+run-print_fits : (mode : Mode) (budget room : ℕ) (fault : Fault) (inputs bytes : List ℕ) → room ≤ most_room → AllWords inputs
+    → Fit (run_print mode budget room fault inputs bytes)
 unfolding run_print run_on
-run-print_fits hardened budget room fault inputs bytes few inputs_are =
+run-print_fits mode budget room fault inputs bytes few inputs_are =
     text_fits progress_text progress_fits
-    (of_then _ (graph_worded hardened bytes) λ g e words.
+    (of_then _ (graph_worded mode bytes) λ g e words.
     run_told g.header.registers g.header.nodes g.header.entry g.table inputs room budget fault words inputs_are few)
 
-score-print_fits : (hardened : Bool) (budget room : ℕ) (inputs bytes : List ℕ) → Fit (score_print hardened budget room inputs bytes)
+score-print_fits : (mode : Mode) (budget room : ℕ) (inputs bytes : List ℕ) → Fit (score_print mode budget room inputs bytes)
 unfolding score_print
-score-print_fits hardened budget room inputs bytes =
-    text_fits score_line (λ s _. score_fits s) (answered (and_then (graph_in hardened bytes) (score_on inputs budget room)))
+score-print_fits mode budget room inputs bytes =
+    text_fits score_line (λ s _. score_fits s) (answered (and_then (graph_in mode bytes) (score_on inputs budget room)))
 
 -- ---- arguments
 
@@ -218,7 +225,7 @@ from_word n (b ∷ bs) h = by (leb 48 b) (leb b 57) (leb (10 * n + b % 48) 42949
   where
     by : (low high small : Bool) → leb (10 * n + b % 48) 4294967295 ≡ small
         → (10 * n + b % 48 < 2 ^ 32 → word_of (value_from (10 * n + b % 48) bs) < 2 ^ 32)
-        → word_of (cond (low && (high && small)) (value_from (10 * n + b % 48) bs) none) < 2 ^ 32
+        → word_of (cond (low && (high && small)) (value_from (10 * n + b % 48) bs) None) < 2 ^ 32
     by true true true e rest = rest (omega (arith, leb-true (10 * n + b % 48) 4294967295 e))
     by true true false e rest = omega arith
     by true false small e rest = omega arith
@@ -228,7 +235,7 @@ value_word : (text : List ℕ) → word_of (value_of text) < 2 ^ 32
 unfolding value_of
 value_word text = by (leb 1 (length text) && leb (length text) 10) (from_word 0 text (omega arith))
   where
-    by : (short : Bool) → word_of (value_from 0 text) < 2 ^ 32 → word_of (cond short (value_from 0 text) none) < 2 ^ 32
+    by : (short : Bool) → word_of (value_from 0 text) < 2 ^ 32 → word_of (cond short (value_from 0 text) None) < 2 ^ 32
     by true h = h
     by false h = omega arith
 
@@ -239,20 +246,33 @@ arguments_words cells from (suc k) =
     words_append (words_of cells from k) (word_of (value_of (argument cells (from + k))) ∷ []) (arguments_words cells from k)
     (value_word (argument cells (from + k)), tt)
 
--- settings have no more room than there is
-numbers_room : (hardened : Bool) (budget room : Option ℕ) → RoomIn (numbers_of hardened budget room)
-numbers_room hardened none room = tt
-numbers_room hardened (some budget) none = tt
-numbers_room hardened (some budget) (some room) = by (leb room most_room) refl
+-- the words that are asked for are words
+inputs_words : (cells : List ℕ) (from : ℕ) → IfOk (words_in cells from) AllWords
+unfolding words_in
+inputs_words cells from =
+    let count = argument_count cells in
+    let first = other_from cells (count - from) from in
+    by (leb count (from + most_words)) (leb count first) (Wanted.Word (first + 1)) (Wanted.End (from + most_words + 1))
   where
-    by : (few : Bool) → leb room most_room ≡ few → RoomIn (cond few (Ready hardened budget room) (Wrong Wanted.Room))
-    by true e = leb-true room most_room e
-    by false e = tt
+    inputs : List ℕ
+    inputs = words_of cells from (argument_count cells - from)
 
-settings_room : (mode : Mode) (budget room : Option ℕ) → RoomIn (settings_by mode budget room)
-settings_room Plain budget room = numbers_room false budget room
-settings_room Hardened budget room = numbers_room true budget room
-settings_room Unknown budget room = tt
+    by : (few all : Bool) (word end : Wanted) → IfOk (cond few (cond all (Ok inputs) (Err word)) (Err end)) AllWords
+    by true true word end = arguments_words cells from (argument_count cells - from)
+    by true false word end = tt
+    by false all word end = tt
+
+then_known : {A B : Type 0} (P : B → Type 0) (asked : Result A Wanted) (next : A → Result B Wanted) → ((a : A) → asked ≡ Ok a → IfOk (next a) P)
+    → IfOk (then_asked asked next) P
+then_known P (Ok a) next known = known a refl
+then_known P (Err wanted) next known = tt
+
+run_words : (cells : List ℕ) → IfOk (run_asked cells) (λ a. AllWords a.2)
+unfolding run_asked
+run_words cells =
+    then_known (λ a. AllWords a.2) (settings_of cells) _ λ settings _.
+    then_known (λ a. AllWords a.2) (ok_or (fault_of (argument cells 3)) Wanted.Fault) _ λ fault _.
+    then_known (λ a. AllWords a.2) (words_in cells 4) _ λ inputs e. rw e at (inputs_words cells 4)
 
 -- ---- programs
 
@@ -260,10 +280,10 @@ abbrev pub PrintFits : Print → Type 0
 PrintFits (output text) = Fit text
 PrintFits (complaint text) = Fit text
 
-words_fit : (cells : List ℕ) (from : ℕ) (words : Words) (text : List ℕ → List ℕ) → ((inputs : List ℕ) → AllWords inputs → Fit (text inputs))
-    → PrintFits (with_words cells from words text)
-words_fit cells from (All count) text fits = fits (words_of cells from count) (arguments_words cells from count)
-words_fit cells from (Bad wanted) text fits = complaint_fits wanted
+-- what was wanted fits, and so does what is printed for what was asked
+print_fits : {A : Type 0} (asked : Result A Wanted) (print : A → Print) → ((a : A) → asked ≡ Ok a → PrintFits (print a)) → PrintFits (print_for asked print)
+print_fits (Ok a) print fits = fits a refl
+print_fits (Err wanted) print fits = complaint_fits wanted
 
 -- a file that was written lies in the text
 file_print_fits : (a : Answer Graph) → PrintFits (file_print (and_then a (file_in text_bytes)))
@@ -279,44 +299,22 @@ file_print_fits (given g) =
 file_print_fits (refused number place) = refusal_fits number place
 
 module _ (cells bytes : List ℕ) where
-  room_known : RoomIn (settings_of cells)
-  unfolding settings_of
-  room_known = settings_room (mode_of (argument cells 0)) (value_of (argument cells 1)) (value_of (argument cells 2))
-
-  fault_fits : (choice : Choice) (hardened : Bool) (budget room : ℕ) → room ≤ most_room → PrintFits (with_fault cells choice hardened budget room bytes)
-  fault_fits (Chosen fault) hardened budget room few =
-      words_fit cells 4 (words_in cells 4) (λ inputs. run_print hardened budget room fault inputs bytes)
-      (λ inputs are. run-print_fits hardened budget room fault inputs bytes few are)
-  fault_fits Other hardened budget room few = complaint_fits Wanted.Fault
-
   -- `hrun`
   pub run_program_fits : PrintFits (run_program cells bytes)
   unfolding run_program
-  run_program_fits = by (settings_of cells) room_known
-    where
-      by : (settings : Settings) → RoomIn settings → PrintFits (run_with cells settings bytes)
-      by (Ready hardened budget room) few = fault_fits (fault_of (argument cells 3)) hardened budget room few
-      by (Wrong wanted) few = complaint_fits wanted
+  run_program_fits =
+      print_fits (run_asked cells) _ λ a e.
+      run-print_fits a.0.mode a.0.budget a.0.room a.1 a.2 bytes a.0.room_in (rw e at (run_words cells))
 
   -- `hscore`
   pub score_program_fits : PrintFits (score_program cells bytes)
   unfolding score_program
-  score_program_fits = by (settings_of cells)
-    where
-      by : (settings : Settings) → PrintFits (score_with cells settings bytes)
-      by (Ready hardened budget room) =
-          words_fit cells 3 (words_in cells 3) (λ inputs. score_print hardened budget room inputs bytes)
-          (λ inputs _. score-print_fits hardened budget room inputs bytes)
-      by (Wrong wanted) = complaint_fits wanted
+  score_program_fits = print_fits (score_asked cells) _ λ a _. score-print_fits a.0.mode a.0.budget a.0.room a.1 bytes
 
   -- `hfile`
   pub file_program_fits : PrintFits (file_program text_bytes cells bytes)
   unfolding file_program
-  file_program_fits = by (file_mode_of cells)
-    where
-      by : (mode : FileMode) → PrintFits (file_with text_bytes mode bytes)
-      by (FileMode.Ready hardened) = file_print_fits (graph_in hardened bytes)
-      by (FileMode.Wrong wanted) = complaint_fits wanted
+  file_program_fits = print_fits (file_mode_of cells) _ λ mode _. file_print_fits (graph_in mode bytes)
 
 -- ---- nothing is cut
 

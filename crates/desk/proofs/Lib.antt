@@ -1,10 +1,11 @@
 -- Laws of the arguments, of the texts and of what they are made of.
-mod Answers
+mod Rows
 mod Cells
-mod Filing
+pub mod Printing
 pub mod Cuts
 pub mod Fits
 pub mod Filed
-pub mod Printing
-mod Rows
+mod Loaded
+mod Sized
+mod Answers
 mod Shows

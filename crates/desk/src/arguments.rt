@@ -1,202 +1,126 @@
 // The programs' arguments, out of their cells.
-ghost use Rattle.std.specs.Prelude.{◌+◌, ◌-◌, ◌*◌, ◌≤◌, ◌≡◌, length};
-ghost use Rattle.desk.specs.Arguments.{same_text, mode_of, fault_of, settings_of, numbers_of, RoomIn, words_in, WordsFew, word_of, words_of, is_number, other_from, file_mode_of};
-ghost use Rattle.text.specs.Decimals.{value_of};
-ghost use Rattle.words.specs.Buffer.{put};
+ghost use Rattle.std.specs.Prelude.{◌≡◌, MatchResult};
+ghost use Rattle.desk.specs.Arguments.{mode_of, fault_of, settings_of, words_in, file_mode_of, run_asked, score_asked};
 ghost use Rattle.desk.specs.Arguments.{argument as argument_text};
 
-use crate::{Choice, FileMode, Mode, Settings, Wanted, Words};
+use crate::settings::{Mode, Settings, Wanted};
+use crate::{MOST_ROOM, MOST_WORDS};
 use bench::Fault;
-use text::Decimal;
 
 // The text of an argument.
 pub fn argument(cells: &[u8], i: usize) -> &[u8]
-    requires { i ≤ 8192 }
     ensures { result.now ≡ argument_text cells.now i }
 {
-    let at = 16 * i;
-    if cells.len() < at + 16 {
-        return &cells[..0];
+    if cells.len() / 16 <= i {
+        return &[];
     }
-    let size = wide(cells[at]);
+    let size = usize::from(cells[16 * i]);
     if 16 <= size {
-        return &cells[..0];
+        return &[];
     }
-    let start = at + 1;
+    let start = 16 * i + 1;
     &cells[start..start + size]
 }
 
-fn wide(b: u8) -> usize
-    ensures { result ≡ b }
-{
-    b as usize
-}
-
-// Whether two texts are the same.
-pub fn same(a: &[u8], b: &[u8]) -> bool
-    ensures { result ≡ same_text a.now b.now }
-{
-    if a.len() != b.len() {
-        return false;
-    }
-    let mut i = 0;
-    while i < a.len() {
-        if a[i] != b[i] {
-            return false;
-        }
-        i += 1;
-    }
-    true
-}
-
-// The mode that a text names.
-pub fn mode(text: &[u8]) -> Mode
+// The mode that a text names. No `TryFrom`, nor below: each is asked in one place, and what is wrong with it that place alone can say.
+#[tactic(auto, unfolding(crate::specs::Arguments::mode_of))]
+pub fn mode(text: &[u8]) -> Option<Mode>
     ensures { result ≡ mode_of text.now }
 {
-    if same(text, b"plain") {
-        return Mode::Plain;
+    if text == b"plain".as_slice() {
+        Some(Mode::Plain)
+    } else if text == b"hardened".as_slice() {
+        Some(Mode::Hardened)
+    } else {
+        None
     }
-    if same(text, b"hardened") {
-        return Mode::Hardened;
-    }
-    Mode::Unknown
 }
 
 // The fault that a text names.
-pub fn fault(text: &[u8]) -> Choice
+#[tactic(auto, unfolding(crate::specs::Arguments::fault_of))]
+pub fn fault(text: &[u8]) -> Option<Fault>
     ensures { result ≡ fault_of text.now }
 {
-    if same(text, b"none") {
-        return Choice::Chosen(Fault::Undisturbed);
+    if text == b"none".as_slice() {
+        return Some(Fault::Undisturbed);
     }
-    let place = text::value(text);
-    let Decimal::Value(n) = place else {
-        return Choice::Other;
-    };
-    let branch = n as usize;
-    Choice::Chosen(Fault::Inverted(branch))
-}
-
-// The word that an argument stands for, 0 where it is no number.
-fn word(cells: &[u8], i: usize) -> u32
-    requires { i ≤ 8192 }
-    ensures { result ≡ word_of (value_of (argument_text cells.now i)) }
-{
-    match text::value(argument(cells, i)) {
-        Decimal::Value(n) => n,
-        Decimal::Other => 0,
-    }
-}
-
-// Whether an argument is a number.
-fn is_number(cells: &[u8], i: usize) -> bool
-    requires { i ≤ 8192 }
-    ensures { result ≡ is_number (value_of (argument_text cells.now i)) }
-{
-    match text::value(argument(cells, i)) {
-        Decimal::Value(_) => true,
-        Decimal::Other => false,
-    }
-}
-
-// The first argument from `from` up to `count` that is no number, or count.
-pub fn other(cells: &[u8], from: usize, count: usize) -> usize
-    requires { (from ≤ count) × (count ≤ 8192) }
-    ensures { result ≡ other_from cells.now (count - from) from }
-{
-    let mut i = from;
-    while i < count {
-        if !is_number(cells, i) {
-            return i;
-        }
-        i += 1;
-    }
-    i
-}
-
-// The words of `count` arguments, the first at `from`, over the first of the inputs.
-pub fn fill(cells: &[u8], from: usize, count: usize, inputs: &mut [u32])
-    requires { (from + count ≤ 8192) × (count ≤ length inputs.old) }
-    ensures { inputs.new ≡ put inputs.old 0 (words_of cells.now from count) }
-{
-    let mut k = 0;
-    while k < count {
-        inputs[k] = word(cells, from + k);
-        k += 1;
-    }
+    text::value(text).map(|place| Fault::Inverted(place as usize))
 }
 
 // The first three arguments.
-pub fn settings(cells: &[u8]) -> Settings
-    ensures value { result ≡ settings_of cells.now }
-    ensures room_in { RoomIn result }
+#[tactic(auto, unfolding(crate::specs::Arguments::settings_of))]
+pub fn settings(cells: &[u8]) -> Result<Settings, Wanted>
+    ensures { result ≡ settings_of cells.now }
 {
-    match mode(argument(cells, 0)) {
-        Mode::Plain => numbers(cells, false),
-        Mode::Hardened => numbers(cells, true),
-        Mode::Unknown => Settings::Wrong(Wanted::Mode),
+    let mode = mode(argument(cells, 0)).ok_or(Wanted::Mode)?;
+    let budget = text::value(argument(cells, 1)).ok_or(Wanted::Budget)? as usize;
+    let room = text::value(argument(cells, 2)).ok_or(Wanted::Room)? as usize;
+    if MOST_ROOM < room {
+        return Err(Wanted::Room);
     }
-}
-
-// The second and the third argument.
-fn numbers(cells: &[u8], hardened: bool) -> Settings
-    ensures value { result ≡ numbers_of hardened (value_of (argument_text cells.now 1)) (value_of (argument_text cells.now 2)) }
-    ensures room_in { RoomIn result }
-{
-    let second = text::value(argument(cells, 1));
-    let Decimal::Value(budget) = second else {
-        return Settings::Wrong(Wanted::Budget);
-    };
-    let third = text::value(argument(cells, 2));
-    let Decimal::Value(room) = third else {
-        return Settings::Wrong(Wanted::Room);
-    };
-    if 16384 < room {
-        return Settings::Wrong(Wanted::Room);
-    }
-    let most = budget as usize;
-    let size = room as usize;
-    Settings::Ready(hardened, most, size)
+    Ok(Settings { mode, budget, room })
 }
 
 // The argument of `hfile`: none, which hardens, or `plain`.
-pub fn file_mode(cells: &[u8]) -> FileMode
+#[tactic(auto, unfolding(crate::specs::Arguments::file_mode_of))]
+pub fn file_mode(cells: &[u8]) -> Result<Mode, Wanted>
     ensures { result ≡ file_mode_of cells.now }
 {
     let count = cells.len() / 16;
     if count == 0 {
-        return FileMode::Ready(true);
+        return Ok(Mode::Hardened);
     }
-    if !same(argument(cells, 0), b"plain") {
-        return FileMode::Wrong(Wanted::Plain);
+    if argument(cells, 0) != b"plain".as_slice() {
+        return Err(Wanted::Plain);
     }
     if 1 < count {
-        return FileMode::Wrong(Wanted::One);
+        return Err(Wanted::One);
     }
-    FileMode::Ready(false)
+    Ok(Mode::Plain)
 }
 
-// How many words the arguments from `from` on are.
-pub fn words(cells: &[u8], from: usize) -> Words
-    requires { from ≤ 4 }
-    ensures value { result ≡ words_in cells.now from }
-    ensures words_few { WordsFew result }
+// The words that the arguments from `from` on are, over the first of those lent.
+fn words<'a>(
+    cells: &[u8],
+    from: usize,
+    words: &'a mut [u32; MOST_WORDS],
+) -> Result<&'a [u32], Wanted>
+    ensures { MatchResult result (λ w. words_in cells.now from ≡ Ok w.now) (λ wanted. words_in cells.now from ≡ Err wanted) }
 {
-    let count = cells.len() / 16;
-    if from + 4096 < count {
-        return Words::Bad(Wanted::End(from + 4097));
+    let count = (cells.len() / 16).saturating_sub(from);
+    if MOST_WORDS < count {
+        return Err(Wanted::End(from + MOST_WORDS + 1));
     }
-    let left = above(count, from);
-    let first = other(cells, from, from + left);
-    if first < count {
-        return Words::Bad(Wanted::Word(first + 1));
+    for k in 0..count {
+        let word = text::value(argument(cells, from + k));
+        words[k] = word.ok_or(Wanted::Word(from + k + 1))?;
     }
-    Words::All(left)
+    Ok(&words[..count])
 }
 
-// How much a number is above another, 0 where it is not.
-fn above(m: usize, n: usize) -> usize
-    ensures { result ≡ m - n }
+// What `hrun` is asked for: the settings, the fault, and the words.
+#[tactic(auto, unfolding(crate::specs::Arguments::run_asked))]
+pub fn run<'a>(
+    cells: &[u8],
+    inputs: &'a mut [u32; MOST_WORDS],
+) -> Result<(Settings, Fault, &'a [u32]), Wanted>
+    ensures { MatchResult result (λ a. run_asked cells.now ≡ Ok (a.0, a.1, a.2.now)) (λ wanted. run_asked cells.now ≡ Err wanted) }
 {
-    if n <= m { m - n } else { 0 }
+    let settings = settings(cells)?;
+    let fault = fault(argument(cells, 3)).ok_or(Wanted::Fault)?;
+    let inputs = words(cells, 4, inputs)?;
+    Ok((settings, fault, inputs))
+}
+
+// What `hscore` is asked for: the settings, and the words.
+#[tactic(auto, unfolding(crate::specs::Arguments::score_asked))]
+pub fn score<'a>(
+    cells: &[u8],
+    inputs: &'a mut [u32; MOST_WORDS],
+) -> Result<(Settings, &'a [u32]), Wanted>
+    ensures { MatchResult result (λ a. score_asked cells.now ≡ Ok (a.0, a.1.now)) (λ wanted. score_asked cells.now ≡ Err wanted) }
+{
+    let settings = settings(cells)?;
+    let inputs = words(cells, 3, inputs)?;
+    Ok((settings, inputs))
 }

@@ -2,109 +2,88 @@
 #![tactic(auto)]
 
 mod arguments;
-mod files;
-mod graphs;
 mod lines;
 mod listing;
 mod loading;
 mod programs;
+mod settings;
 
-ghost use Rattle.text.specs.Places.{Wrote};
 ghost use Rattle.std.specs.Prelude.{length};
+ghost use Rattle.text.specs.Places.{Wrote};
 ghost use Rattle.desk.specs.Programs.{list_text, run_program, score_program, file_program, Shown};
 
-use bench::Fault;
-use loading::Loaded;
+use graph::Limits;
+use programs::Job;
+use text::Text;
 
-// A program's first argument: the graph as it is read, or hardened first.
-#[derive(Clone, Copy)]
-pub enum Mode {
-    Plain,
-    Hardened,
-    Unknown,
-}
+// The words of the largest graph's table, the most event words, and the most input words.
+const TABLE_WORDS: usize = 6 * Limits::RUNNABLE_NODES;
 
-// What was wanted in the place of an argument; two hold the argument's number, from 1.
-#[derive(Clone, Copy)]
-pub enum Wanted {
-    Mode,
-    Budget,
-    Room,
-    Fault,
-    Word(usize),
-    End(usize),
-    Plain,
-    One,
-}
+const MOST_ROOM: usize = 16384;
 
-// The first three arguments: whether to harden, the budget, the event room.
-#[derive(Clone, Copy)]
-pub enum Settings {
-    Ready(bool, usize, usize),
-    Wrong(Wanted),
-}
+const MOST_WORDS: usize = 4096;
 
-// The argument of `hfile`: whether to harden.
-#[derive(Clone, Copy)]
-pub enum FileMode {
-    Ready(bool),
-    Wrong(Wanted),
-}
-
-// A fault that an argument names.
-#[derive(Clone, Copy)]
-pub enum Choice {
-    Chosen(Fault),
-    Other,
-}
-
-// How many words the last arguments are.
-#[derive(Clone, Copy)]
-pub enum Words {
-    All(usize),
-    Bad(Wanted),
-}
-
-// How much of the text is to be printed, and whether it is the output or a complaint.
-#[derive(Clone, Copy)]
+// How much of the text is to be printed, and whether it is the output or a complaint. A Result of two sizes would name neither.
+#[derive(Clone, Copy, Debug, PartialEq, Eq)]
 pub enum Printed {
     Output(usize),
     Complaint(usize),
 }
 
 // What `hlist` prints for the bytes of a source file, and how long it is.
+#[tactic(auto, unfolding(text::specs::Places::appended))]
 pub fn list(bytes: &[u8], text: &mut [u8]) -> usize
     ensures { Wrote text.old 0 (list_text bytes.now) text.new result }
 {
-    let mut table = loading::table_space();
-    let answer = loading::load(bytes, true, &mut table);
-    match answer {
-        Loaded::Graph(h) => listing::listing(text, h, &table),
-        Loaded::Refused(number, place) => lines::refusal(text, 0, number, place),
-    }
+    let mut out = Text { out: text, at: 0 };
+    programs::list(bytes, &mut out);
+    out.at
 }
 
 // What `hrun` prints for its arguments, in cells, and the bytes of a graph file.
 pub fn run(cells: &[u8], bytes: &[u8], text: &mut [u8]) -> Printed
     ensures { Shown text.old (run_program cells.now bytes.now) text.new result }
 {
-    match arguments::settings(cells) {
-        Settings::Ready(hardened, budget, room) => {
-            programs::run_with(cells, bytes, hardened, budget, room, text)
+    let mut out = Text { out: text, at: 0 };
+    let mut space = words::zeros::<MOST_WORDS>();
+    match arguments::run(cells, &mut space) {
+        Ok((settings, fault, inputs)) => {
+            let job = Job {
+                bytes,
+                settings,
+                inputs,
+            };
+            job.run(fault, &mut out);
+            Printed::Output(out.at)
         }
-        Settings::Wrong(wanted) => Printed::Complaint(lines::complaint(text, wanted)),
+        Err(wanted) => {
+            lines::complaint(&mut out, wanted);
+            Printed::Complaint(out.at)
+        }
     }
 }
 
-// What `hscore` prints for its arguments, in cells, and the bytes of a graph file.
+// What `hscore` prints for its arguments, in cells, and the bytes of a graph file. Not one function with `run`: what is asked for and what is
+// made of it differ, and only the match around them is alike.
 pub fn score(cells: &[u8], bytes: &[u8], text: &mut [u8]) -> Printed
     ensures { Shown text.old (score_program cells.now bytes.now) text.new result }
 {
-    match arguments::settings(cells) {
-        Settings::Ready(hardened, budget, room) => {
-            programs::score_words(cells, bytes, hardened, budget, room, text)
+    let mut out = Text { out: text, at: 0 };
+    let mut space = words::zeros::<MOST_WORDS>();
+    match arguments::score(cells, &mut space) {
+        Ok((settings, inputs)) => {
+            let job = Job {
+                bytes,
+                settings,
+                inputs,
+            };
+            job.score(&mut out);
+            Printed::Output(out.at)
         }
-        Settings::Wrong(wanted) => Printed::Complaint(lines::complaint(text, wanted)),
+        Err(wanted) => {
+            lines::complaint(&mut out, wanted);
+            Printed::Complaint(out.at)
+        }
     }
 }
 
@@ -112,8 +91,18 @@ pub fn score(cells: &[u8], bytes: &[u8], text: &mut [u8]) -> Printed
 pub fn file(cells: &[u8], bytes: &[u8], text: &mut [u8]) -> Printed
     ensures { Shown text.old (file_program (length text.old) cells.now bytes.now) text.new result }
 {
+    let mut out = Text { out: text, at: 0 };
     match arguments::file_mode(cells) {
-        FileMode::Ready(hardened) => files::file_graph(bytes, hardened, text),
-        FileMode::Wrong(wanted) => Printed::Complaint(lines::complaint(text, wanted)),
+        Ok(mode) => match programs::file(bytes, mode, out.out) {
+            Ok(size) => Printed::Output(size),
+            Err(refusal) => {
+                lines::refusal(&mut out, refusal);
+                Printed::Complaint(out.at)
+            }
+        },
+        Err(wanted) => {
+            lines::complaint(&mut out, wanted);
+            Printed::Complaint(out.at)
+        }
     }
 }

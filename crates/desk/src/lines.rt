@@ -1,112 +1,108 @@
-// Lines of numbers and of words, written upward into a lent text.
+// Lines of numbers and of words, written upward into a lent text. Not by `Display`: no contract can name the bytes that it writes.
+#![tactic(auto, using(text::proofs::Writing::appended_then, text::proofs::Decimals::spaced_then), unfolding(crate::specs::Lines::refusal_line, crate::specs::Lines::counts_text, crate::specs::Lines::score_line, crate::specs::Lines::run_text))]
+
 ghost use Rattle.std.specs.Prelude.{◌≡◌, [], ◌∷◌, ◌++◌};
+ghost use Rattle.words.specs.Refusals.{number_of};
 ghost use Rattle.text.specs.Decimals.{spaced};
-ghost use Rattle.text.specs.Places.{Wrote};
+ghost use Rattle.text.specs.Places.{appended};
 ghost use Rattle.desk.specs.Lines.{line, refusal_line, outcome_text, counts_text, run_text, score_line, complaint_of, complaint_line};
 
-use crate::Wanted;
+use crate::settings::Wanted;
 use bench::{Outcome, Score, State};
-use text::{after_space, byte, number, piece};
+use text::Text;
+use words::Refusal;
 
 // Two numbers, one space before each.
-pub fn pair(out: &mut [u8], at: usize, m: usize, n: usize) -> usize
-    ensures { Wrote out.old at (spaced (m ∷ n ∷ [])) out.new result }
+pub fn pair(out: &mut Text, m: usize, n: usize)
+    ensures { out.new ≡ appended out.old (spaced (m ∷ n ∷ [])) }
 {
-    let place = after_space(out, at, m);
-    after_space(out, place, n)
+    out.after_space(m);
+    out.after_space(n);
 }
 
 // A name and a number on a line.
-pub fn named(out: &mut [u8], at: usize, name: &[u8], n: usize) -> usize
-    ensures { Wrote out.old at (line (name.now ++ spaced (n ∷ []))) out.new result }
+pub fn named(out: &mut Text, name: &[u8], n: usize)
+    ensures { out.new ≡ appended out.old (line (name.now ++ spaced (n ∷ []))) }
 {
-    let place = piece(out, at, name);
-    let end = after_space(out, place, n);
-    byte(out, end, b'\n')
+    out.piece(name);
+    out.after_space(n);
+    out.byte(b'\n');
 }
 
-// A name and words on a line.
-pub fn listed(out: &mut [u8], at: usize, name: &[u8], words: &[u32]) -> usize
-    ensures { Wrote out.old at (line (name.now ++ spaced words.now)) out.new result }
+// A name and words on a line. Not one with `named`: a count has 64 bits, a word 32.
+pub fn listed(out: &mut Text, name: &[u8], words: &[u32])
+    ensures { out.new ≡ appended out.old (line (name.now ++ spaced words.now)) }
 {
-    let place = piece(out, at, name);
-    let end = text::spaced(out, place, words);
-    byte(out, end, b'\n')
+    out.piece(name);
+    out.spaced(words);
+    out.byte(b'\n');
 }
 
 // A refusal's line.
-pub fn refusal(out: &mut [u8], at: usize, number: u32, place: usize) -> usize
-    ensures { Wrote out.old at (refusal_line number place) out.new result }
+pub fn refusal(out: &mut Text, refusal: Refusal)
+    ensures { out.new ≡ appended out.old (refusal_line (number_of refusal.reason) refusal.place) }
 {
-    let next = piece(out, at, b"refused");
-    let end = pair(out, next, number as usize, place);
-    byte(out, end, b'\n')
+    out.piece(b"refused");
+    pair(out, refusal.reason.number() as usize, refusal.place);
+    out.byte(b'\n');
 }
 
 // The line that says how a run ended.
-pub fn outcome(out: &mut [u8], at: usize, end: Outcome) -> usize
-    ensures { Wrote out.old at (line (outcome_text end)) out.new result }
+pub fn outcome(out: &mut Text, end: Outcome)
+    ensures { out.new ≡ appended out.old (line (outcome_text end)) }
 {
     match end {
-        Outcome::Returned(v) => named(out, at, b"returned", v as usize),
-        Outcome::Caught => piece(out, at, b"caught\n"),
-        Outcome::Spent => piece(out, at, b"spent\n"),
-        Outcome::Full => piece(out, at, b"full\n"),
+        Outcome::Returned(v) => named(out, b"returned", v as usize),
+        Outcome::Caught => out.piece(b"caught\n"),
+        Outcome::Spent => out.piece(b"spent\n"),
+        Outcome::Full => out.piece(b"full\n"),
     }
 }
 
 // Where a run stands, and what it counted.
-pub fn counts(
-    out: &mut [u8],
-    at: usize,
-    node: usize,
-    steps: usize,
-    branches: usize,
-    reads: usize,
-) -> usize
-    ensures { Wrote out.old at (counts_text node steps branches reads) out.new result }
+pub fn counts(out: &mut Text, s: State)
+    ensures { out.new ≡ appended out.old (counts_text s.node s.steps s.branches s.reads) }
 {
-    let first = named(out, at, b"node", node);
-    let second = named(out, first, b"steps", steps);
-    let third = named(out, second, b"branches", branches);
-    named(out, third, b"reads", reads)
+    named(out, b"node", s.node);
+    named(out, b"steps", s.steps);
+    named(out, b"branches", s.branches);
+    named(out, b"reads", s.reads);
 }
 
 // A score's line.
-pub fn score(out: &mut [u8], at: usize, s: Score) -> usize
-    ensures { Wrote out.old at (score_line s) out.new result }
+pub fn score(out: &mut Text, s: Score)
+    ensures { out.new ≡ appended out.old (score_line s) }
 {
-    let first = number(out, at, s.positions);
-    let second = pair(out, first, s.caught, s.late);
-    let third = pair(out, second, s.harmless, s.changed);
-    let end = after_space(out, third, s.unended);
-    byte(out, end, b'\n')
+    out.number(s.positions);
+    pair(out, s.caught, s.late);
+    pair(out, s.harmless, s.changed);
+    out.after_space(s.unended);
+    out.byte(b'\n');
 }
 
 // What a run answered, and its events.
-pub fn ran(out: &mut [u8], end: Outcome, s: State, events: &[u32]) -> usize
-    ensures { Wrote out.old 0 (run_text end s events.now) out.new result }
+pub fn ran(out: &mut Text, end: Outcome, s: State, events: &[u32])
+    ensures { out.new ≡ appended out.old (run_text end s events.now) }
 {
-    let first = outcome(out, 0, end);
-    let second = counts(out, first, s.node, s.steps, s.branches, s.reads);
-    let third = listed(out, second, b"events", events);
-    let registers = s.registers;
-    listed(out, third, b"registers", &registers)
+    outcome(out, end);
+    counts(out, s);
+    listed(out, b"events", events);
+    listed(out, b"registers", &s.registers);
 }
 
 // The line that says which argument is wrong and what was expected.
-fn expected(out: &mut [u8], argument: usize, wanted: &[u8]) -> usize
-    ensures { Wrote out.old 0 (complaint_of argument wanted.now) out.new result }
+fn expected(out: &mut Text, argument: usize, wanted: &[u8])
+    ensures { out.new ≡ appended out.old (complaint_of argument wanted.now) }
 {
-    let first = piece(out, 0, b"argument");
-    let second = after_space(out, first, argument);
-    let end = piece(out, second, wanted);
-    byte(out, end, b'\n')
+    out.piece(b"argument");
+    out.after_space(argument);
+    out.piece(wanted);
+    out.byte(b'\n');
 }
 
 // What was wanted in the place of an argument.
-pub fn complaint(out: &mut [u8], wanted: Wanted) -> usize
-    ensures { Wrote out.old 0 (complaint_line wanted) out.new result }
+pub fn complaint(out: &mut Text, wanted: Wanted)
+    ensures { out.new ≡ appended out.old (complaint_line wanted) }
 {
     match wanted {
         Wanted::Mode => expected(out, 1, b": expected MODE, plain or hardened"),

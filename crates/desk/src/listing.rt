@@ -1,47 +1,43 @@
 // A graph in text: R, N and entry, then each node's number and six words.
+#![tactic(auto, using(text::proofs::Writing::appended_then, text::proofs::Decimals::spaced_then, crate::proofs::Rows::rows_more), unfolding(crate::specs::Listing::row_line, crate::specs::Listing::row_lines, crate::specs::Listing::listing))]
+
 ghost use Rattle.std.specs.Prelude.{◌+◌, ◌*◌, ◌≤◌, ◌≡◌, [], ◌∷◌, ◌++◌, length};
 ghost use Rattle.text.specs.Decimals.{decimal, spaced};
-ghost use Rattle.text.specs.Places.{Wrote};
+ghost use Rattle.text.specs.Places.{appended};
 ghost use Rattle.desk.specs.Lines.{line};
 ghost use Rattle.desk.specs.Listing.{row_line, row_lines};
 ghost use Rattle.desk.specs.Listing.{listing as listing_text};
 
 use crate::lines::pair;
 use graph::Header;
-use text::{byte, number};
+use text::Text;
 
 // The first line.
-fn header(out: &mut [u8], h: Header) -> usize
-    ensures { Wrote out.old 0 (line (decimal h.registers ++ spaced (h.nodes ∷ h.entry ∷ []))) out.new result }
+fn header(out: &mut Text, h: Header)
+    ensures { out.new ≡ appended out.old (line (decimal h.registers ++ spaced (h.nodes ∷ h.entry ∷ []))) }
 {
-    let first = number(out, 0, h.registers);
-    let end = pair(out, first, h.nodes, h.entry);
-    byte(out, end, b'\n')
+    out.number(h.registers);
+    pair(out, h.nodes, h.entry);
+    out.byte(b'\n');
 }
 
 // The line of a node.
-fn row(out: &mut [u8], at: usize, table: &[u32], n: usize) -> usize
+fn row(out: &mut Text, table: &[u32], n: usize)
     requires { 6 * n + 6 ≤ length table.now }
-    ensures { Wrote out.old at (row_line table.now n) out.new result }
+    ensures { out.new ≡ appended out.old (row_line table.now n) }
 {
-    let first = number(out, at, n);
-    let start = 6 * n;
-    let end = start + 6;
-    let place = text::spaced(out, first, &table[start..end]);
-    byte(out, place, b'\n')
+    out.number(n);
+    out.spaced(&table[6 * n..6 * n + 6]);
+    out.byte(b'\n');
 }
 
 // The whole listing of a graph whose nodes are in the table.
-pub fn listing(out: &mut [u8], h: Header, table: &[u32]) -> usize
+pub fn listing(out: &mut Text, h: Header, table: &[u32])
     requires { 6 * h.nodes ≤ length table.now }
-    ensures { Wrote out.old 0 (listing_text h table.now) out.new result }
+    ensures { out.new ≡ appended out.old (listing_text h table.now) }
 {
-    let nodes = h.nodes;
-    let mut place = header(out, h);
-    let mut n = 0;
-    while n < nodes {
-        place = row(out, place, table, n);
-        n += 1;
+    header(out, h);
+    for n in 0..h.nodes {
+        row(out, table, n);
     }
-    place
 }

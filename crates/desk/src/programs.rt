@@ -1,171 +1,101 @@
-// The programs behind their settings: the words, the graph, and what is printed of it.
-ghost use Rattle.std.specs.Prelude.{◌≤◌, ◌≡◌, length, replicate};
-ghost use Rattle.text.specs.Places.{Wrote};
-ghost use Rattle.desk.specs.Lines.{score_line};
-ghost use Rattle.desk.specs.Arguments.{argument, words_of, words_in, fault_of, most_room, most_words};
-ghost use Rattle.desk.specs.Programs.{text_of, run_on, score_on, progress_text, run_print, score_print, with_fault, with_words, Shown};
+// What is made of the graph in some bytes, in the text of a program: a listing, a run, a campaign, a file.
+ghost use Rattle.std.specs.Prelude.{◌≡◌, length};
+ghost use Rattle.words.specs.Answer.{and_then, written};
+ghost use Rattle.words.specs.Buffer.{over};
+ghost use Rattle.words.specs.Refusals.{answer_of};
+ghost use Rattle.bench.specs.Runs.{answered};
+ghost use Rattle.text.specs.Places.{appended};
+ghost use Rattle.desk.specs.Jobs.{run_of_job, score_of_job, Filed};
+ghost use Rattle.desk.specs.Programs.{graph_in, list_text, run_print, score_print, file_in};
 
-use crate::loading::Loaded;
-use crate::{Choice, Printed, Wanted, Words, arguments, graphs, lines, loading};
-use bench::Fault;
-use graph::Header;
+use crate::loading::Graph;
+use crate::settings::{Mode, Settings};
+use crate::{MOST_ROOM, lines, listing};
+use bench::{Fault, RunAnswer, Score};
+use text::Text;
+use words::Refusal;
 
-// Room for the most event words.
-fn event_space() -> [u32; 16384]
-    ensures { result ≡ replicate most_room 0 }
-{
-    [0; 16384]
+// What a run and a campaign are made of.
+#[derive(Clone, Copy)]
+pub struct Job<'a> {
+    pub bytes: &'a [u8],
+    pub settings: Settings,
+    pub inputs: &'a [u32],
 }
 
-// Room for the most input words.
-fn word_space() -> [u32; 4096]
-    ensures { result ≡ replicate most_words 0 }
-{
-    [0; 4096]
-}
-
-// One run of a graph in a table.
-fn run_table(
-    h: Header,
-    table: &[u32],
-    inputs: &[u32],
-    budget: usize,
-    room: usize,
-    fault: Fault,
-    text: &mut [u8],
-) -> usize
-    requires { room ≤ most_room }
-    ensures { Wrote text.old 0 (text_of (run_on inputs.now budget room fault (record { header = h; table = table.now })) progress_text) text.new result }
-{
-    let mut events = event_space();
-    graphs::run_text(h, table, inputs, &mut events[..room], budget, fault, text)
-}
-
-// One run of the graph in the bytes.
-fn run_graph(
-    bytes: &[u8],
-    hardened: bool,
-    inputs: &[u32],
-    budget: usize,
-    room: usize,
-    fault: Fault,
-    text: &mut [u8],
-) -> usize
-    requires { room ≤ most_room }
-    ensures { Wrote text.old 0 (run_print hardened budget room fault inputs.now bytes.now) text.new result }
-{
-    let mut table = loading::table_space();
-    let answer = loading::load(bytes, hardened, &mut table);
-    match answer {
-        Loaded::Graph(h) => run_table(h, &table, inputs, budget, room, fault, text),
-        Loaded::Refused(number, place) => lines::refusal(text, 0, number, place),
+impl Job<'_> {
+    // One run of the graph; the room is the buffer's length.
+    fn run_in(&self, fault: Fault, events: &mut [u32]) -> Result<RunAnswer, Refusal>
+        ensures value { answer_of result ≡ answered (run_of_job self.now fault (length events.old)) }
+        ensures events_after { events.new ≡ written (run_of_job self.now fault (length events.old)) (λ p. over p.machine.events events.old) events.old }
+    {
+        let graph = Graph::load(self.bytes, self.settings.mode)?;
+        bench::run(
+            graph.header,
+            &graph.table,
+            self.inputs,
+            events,
+            self.settings.budget,
+            fault,
+        )
     }
-}
 
-// One campaign over a graph in a table.
-fn score_table(
-    h: Header,
-    table: &[u32],
-    inputs: &[u32],
-    budget: usize,
-    room: usize,
-    text: &mut [u8],
-) -> usize
-    requires { room ≤ most_room }
-    ensures { Wrote text.old 0 (text_of (score_on inputs.now budget room (record { header = h; table = table.now })) score_line) text.new result }
-{
-    let mut first = event_space();
-    let mut second = event_space();
-    graphs::score_text(
-        h,
-        table,
-        inputs,
-        &mut first[..room],
-        &mut second[..room],
-        budget,
-        text,
-    )
-}
-
-// One campaign over the graph in the bytes.
-fn score_graph(
-    bytes: &[u8],
-    hardened: bool,
-    inputs: &[u32],
-    budget: usize,
-    room: usize,
-    text: &mut [u8],
-) -> usize
-    requires { room ≤ most_room }
-    ensures { Wrote text.old 0 (score_print hardened budget room inputs.now bytes.now) text.new result }
-{
-    let mut table = loading::table_space();
-    let answer = loading::load(bytes, hardened, &mut table);
-    match answer {
-        Loaded::Graph(h) => score_table(h, &table, inputs, budget, room, text),
-        Loaded::Refused(number, place) => lines::refusal(text, 0, number, place),
-    }
-}
-
-// The words of a run, then the run.
-fn run_words(
-    cells: &[u8],
-    bytes: &[u8],
-    hardened: bool,
-    budget: usize,
-    room: usize,
-    fault: Fault,
-    text: &mut [u8],
-) -> Printed
-    requires { room ≤ most_room }
-    ensures { Shown text.old (with_words cells.now 4 (words_in cells.now 4) (λ inputs. run_print hardened budget room fault inputs bytes.now)) text.new result }
-{
-    match arguments::words(cells, 4) {
-        Words::All(count) => {
-            let mut inputs = word_space();
-            arguments::fill(cells, 4, count, &mut inputs);
-            Printed::Output(run_graph(bytes, hardened, &inputs[..count], budget, room, fault, text))
+    // One run's text.
+    pub(crate) fn run(&self, fault: Fault, out: &mut Text)
+        ensures { let s = self.now.settings in out.new ≡ appended out.old (run_print s.mode s.budget s.room fault self.now.inputs.now self.now.bytes.now) }
+    {
+        let mut space = words::zeros::<MOST_ROOM>();
+        let events = &mut space[..self.settings.room];
+        match self.run_in(fault, events) {
+            Ok(a) => lines::ran(out, a.outcome, a.state, &events[..2 * a.events]),
+            Err(refusal) => lines::refusal(out, refusal),
         }
-        Words::Bad(wanted) => Printed::Complaint(lines::complaint(text, wanted)),
     }
-}
 
-// The fault of a run, then its words.
-pub fn run_with(
-    cells: &[u8],
-    bytes: &[u8],
-    hardened: bool,
-    budget: usize,
-    room: usize,
-    text: &mut [u8],
-) -> Printed
-    requires { room ≤ most_room }
-    ensures { Shown text.old (with_fault cells.now (fault_of (argument cells.now 3)) hardened budget room bytes.now) text.new result }
-{
-    match arguments::fault(arguments::argument(cells, 3)) {
-        Choice::Chosen(fault) => run_words(cells, bytes, hardened, budget, room, fault, text),
-        Choice::Other => Printed::Complaint(lines::complaint(text, Wanted::Fault)),
+    // One campaign over the graph; the room is the buffers' length.
+    fn score_in(&self, first: &mut [u32], second: &mut [u32]) -> Result<Score, Refusal>
+        requires { length second.old ≡ length first.old }
+        ensures { answer_of result ≡ score_of_job self.now (length first.old) }
+    {
+        let graph = Graph::load(self.bytes, self.settings.mode)?;
+        bench::campaign(
+            graph.header,
+            &graph.table,
+            self.inputs,
+            first,
+            second,
+            self.settings.budget,
+        )
     }
-}
 
-// The words of a campaign, then the campaign.
-pub fn score_words(
-    cells: &[u8],
-    bytes: &[u8],
-    hardened: bool,
-    budget: usize,
-    room: usize,
-    text: &mut [u8],
-) -> Printed
-    requires { room ≤ most_room }
-    ensures { Shown text.old (with_words cells.now 3 (words_in cells.now 3) (λ inputs. score_print hardened budget room inputs bytes.now)) text.new result }
-{
-    match arguments::words(cells, 3) {
-        Words::All(count) => {
-            let mut inputs = word_space();
-            arguments::fill(cells, 3, count, &mut inputs);
-            Printed::Output(score_graph(bytes, hardened, &inputs[..count], budget, room, text))
+    // One campaign's text.
+    pub(crate) fn score(&self, out: &mut Text)
+        ensures { let s = self.now.settings in out.new ≡ appended out.old (score_print s.mode s.budget s.room self.now.inputs.now self.now.bytes.now) }
+    {
+        let mut first = words::zeros::<MOST_ROOM>();
+        let mut second = words::zeros::<MOST_ROOM>();
+        let room = self.settings.room;
+        match self.score_in(&mut first[..room], &mut second[..room]) {
+            Ok(score) => lines::score(out, score),
+            Err(refusal) => lines::refusal(out, refusal),
         }
-        Words::Bad(wanted) => Printed::Complaint(lines::complaint(text, wanted)),
     }
+}
+
+// The listing of the hardened graph.
+pub fn list(bytes: &[u8], out: &mut Text)
+    ensures { out.new ≡ appended out.old (list_text bytes.now) }
+{
+    match Graph::load(bytes, Mode::Hardened) {
+        Ok(graph) => listing::listing(out, graph.header, &graph.table),
+        Err(refusal) => lines::refusal(out, refusal),
+    }
+}
+
+// The file of the graph, and how long it is; a refusal leaves the text as it stood.
+pub fn file(bytes: &[u8], mode: Mode, text: &mut [u8]) -> Result<usize, Refusal>
+    ensures { Filed text.old (and_then (graph_in mode bytes.now) (file_in (length text.old))) text.new result }
+{
+    let graph = Graph::load(bytes, mode)?;
+    file::write(graph.header, &graph.table, text)
 }

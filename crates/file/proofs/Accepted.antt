@@ -7,7 +7,7 @@ use native.Mathlib.Omega.{arith}
 use lib.ListN.{length}
 use lib.Dec.{leb}
 use borrow.Author.Tests.{leb-true}
-use Rattle.words.specs.Number.{Reading}
+use Rattle.words.specs.declared.Reading.{Reading}
 use Rattle.words.proofs.Answers.{Of, of_given, of_demand, of_then}
 use Rattle.graph.specs.declared.Role.TheVariants.{Target}
 use Rattle.file.specs.Reading.{Contents, body_of, contents_of}
@@ -41,7 +41,8 @@ contents_law bytes room =
     (λ fits.
     of_then _ (field_law bytes r.value n.value registers.within nodes.within Target n.next refl (omega arith)) λ e ee entry.
     let early : e.next ≤ 5 = omega arith in
-    of_then _ (cells_law bytes r.value n.value registers.within nodes.within e.next early (6 * n.value) 0 0 e.next (omega arith) (here_first e.next)) λ c ec words.
+    let cells = cells_law bytes r.value n.value registers.within nodes.within e.next early (6 * n.value) 0 0 e.next (omega arith) (here_first e.next) in
+    of_then _ cells λ c ec words.
     let end : c.next ≤ e.next + 12 * n.value = in_order_end bytes r.value n.value e.next (omega arith) (here_first e.next) words in
     of_demand (leb (length bytes) c.next) 10 c.next _
     (λ whole.

@@ -31,6 +31,7 @@ unfolding fault_at role_at
 fault-same registers nodes table i kind k = by (ℕ_discrete (i % 6) 0)
   where
     by : Dec (i % 6 ≡ 0) →
-        fault 8 registers nodes (role_at (get_or table (i / 6 * 6) 0) (i % 6)) (get_or table i 0) ≡ fault 8 registers nodes (role_at kind (i % 6)) (get_or table i 0)
+        fault 8 registers nodes (role_at (get_or table (i / 6 * 6) 0) (i % 6)) (get_or table i 0)
+        ≡ fault 8 registers nodes (role_at kind (i % 6)) (get_or table i 0)
     by (yes z) = rw z
     by (no z) = rw (k z)

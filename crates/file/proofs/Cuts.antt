@@ -14,7 +14,7 @@ use Rattle.words.proofs.Numbers.{number_take}
 use Rattle.graph.specs.declared.Role.{Role}
 use Rattle.graph.specs.declared.Role.TheVariants.{Target}
 use Rattle.graph.specs.Kinds.{role_at}
-use Rattle.file.specs.Reading.{before, kind_after, count_at, field_at, cell_at, cells_from, body_of, contents_of, read_answer, read_table}
+use Rattle.file.specs.Reading.{before, kind_after, count_at, field_at, cell_at, cells_from, body_of, contents_of, read_answer, read_table, own}
 use Rattle.file.proofs.Sizes.{used, used_role, reach, reach_most, Here, here_first, here_next}
 use Rattle.file.proofs.Refusals.{count_law, field_law, cell_law}
 use Rattle.file.proofs.InOrder.{cells_law, in_order_end}
@@ -28,17 +28,17 @@ module _ (bytes : List ℕ) where
   count-take limit at h = rw (number_take 32768 bytes at (omega arith))
 
   module _ (registers nodes : ℕ) where
-    field_take : (role : Role) (at : ℕ) → at ≤ 24603 → field_at front registers nodes role at ≡ field_at bytes registers nodes role at
+    field_take : (role : Role) (at : ℕ) → at ≤ 24603 → field_at front (own registers nodes) role at ≡ field_at bytes (own registers nodes) role at
     unfolding field_at
     field_take role at h = rw (number_take 32768 bytes at (omega arith))
 
-    cell_take : (role : Role) (at : ℕ) → at ≤ 24603 → cell_at front registers nodes role at ≡ cell_at bytes registers nodes role at
+    cell_take : (role : Role) (at : ℕ) → at ≤ 24603 → cell_at front (own registers nodes) role at ≡ cell_at bytes (own registers nodes) role at
     unfolding cell_at
     cell_take role at h = rw (field_take role at h)
 
     module _ (few : registers ≤ 64) (fewer : nodes ≤ 2050) (first : ℕ) (early : first ≤ 5) where
       cells-take : (left i kind at : ℕ) → i + left ≡ 6 * nodes → Here first i kind at →
-          cells_from front registers nodes left i kind at ≡ cells_from bytes registers nodes left i kind at
+          cells_from front (own registers nodes) left i kind at ≡ cells_from bytes (own registers nodes) left i kind at
       unfolding cells_from
       cells-take zero i kind at count h = refl
       cells-take (suc left) i kind at count h =
@@ -46,21 +46,21 @@ module _ (bytes : List ℕ) where
           let short : used kind (i % 6) ≤ reach role = used_role kind (i % 6) (omega arith) in
           let most : reach role ≤ 10 = reach_most role in
           rw (cell_take role at (omega arith))
-          (then_same (cell_at bytes registers nodes role at) _ _ λ r e.
+          (then_same (cell_at bytes (own registers nodes) role at) _ _ λ r e.
           ap (before r.value)
           (cells-take left (i + 1) (kind_after (i % 6) r.value kind) r.next (omega arith)
           (here_next first i kind at r.value r.next h (when_given e (cell_law bytes registers nodes few fewer role at (omega arith))).short)))
 
     module _ (long : 32768 < length bytes) (few : registers ≤ 64) (fewer : nodes ≤ 2050) where
-      body_take : (at : ℕ) → at ≤ 3 → body_of front registers nodes at ≡ body_of bytes registers nodes at
+      body_take : (at : ℕ) → at ≤ 3 → body_of front (own registers nodes) at ≡ body_of bytes (own registers nodes) at
       unfolding body_of
       body_take at h =
           let cut : length front ≡ 32768 = length-take-le 32768 bytes (omega arith) in
           rw (field_take Target at (omega arith))
-          (then_same (field_at bytes registers nodes Target at) _ _ λ e ee.
+          (then_same (field_at bytes (own registers nodes) Target at) _ _ λ e ee.
           let early : e.next ≤ 5 = omega (arith, (when_given ee (field_law bytes registers nodes few fewer Target at refl (omega arith))).short) in
           rw (cells-take few fewer e.next early (6 * nodes) 0 0 e.next (omega arith) (here_first e.next))
-          (then_same (cells_from bytes registers nodes (6 * nodes) 0 0 e.next) _ _ λ c ec.
+          (then_same (cells_from bytes (own registers nodes) (6 * nodes) 0 0 e.next) _ _ λ c ec.
           let words = when_given ec (cells_law bytes registers nodes few fewer e.next early (6 * nodes) 0 0 e.next (omega arith) (here_first e.next)) in
           let end : c.next ≤ e.next + 12 * nodes = in_order_end bytes registers nodes e.next (omega arith) (here_first e.next) words in
           let over : c.next < length bytes = omega arith in

@@ -7,12 +7,12 @@ use Prim.Native.Nat.{ℕ, zero, suc, ◌+◌, ◌*◌, ◌%◌, ◌≤◌}
 use native.Mathlib.Omega.{arith}
 use lib.ListN.{length}
 use Rattle.words.specs.Answer.{Answer, given}
-use Rattle.words.specs.Number.{Reading, reading, number_at}
+use Rattle.words.specs.Number.{reading, number_at}
+use Rattle.words.specs.declared.Reading.{Reading}
 use Rattle.words.proofs.Answers.{Of, of_given, of_refused, of_then}
 use Rattle.graph.specs.declared.Role.{Role}
 use Rattle.graph.specs.Kinds.{role_at}
-use Rattle.file.specs.Reading.{Cells, before, stands, kind_after, cells_from}
-use Rattle.file.specs.declared.Taken.{Taken}
+use Rattle.file.specs.Reading.{Cells, before, stands, kind_after, cells_from, own}
 use Rattle.file.specs.Passes.{taken_of, taken_at, taken_cell, taken_from}
 use Rattle.file.proofs.Sizes.{used, used_one, used_role, reach, Here, here_next}
 use Rattle.file.proofs.Refusals.{Refusal, Celled, cell_law}
@@ -33,13 +33,14 @@ module _ (bytes : List ℕ) (registers nodes : ℕ) where
 
   -- the words of the nodes are in order, or are refused at a place where a word can stand
   pub cells_law : registers ≤ 64 → nodes ≤ 2050 → (first : ℕ) → first ≤ 5 → (left i kind at : ℕ) → i + left ≡ 6 * nodes → Here first i kind at →
-      Of (λ c. InOrder bytes registers nodes left i kind at c.words c.next) Refusal (cells_from bytes registers nodes left i kind at)
+      Of (λ c. InOrder bytes registers nodes left i kind at c.words c.next) Refusal (cells_from bytes (own registers nodes) left i kind at)
   unfolding cells_from
   cells_law few fewer first early zero i kind at count h = of_given none
   cells_law few fewer first early (suc left) i kind at count h =
       let short : used kind (i % 6) ≤ reach (role_at kind (i % 6)) = used_role kind (i % 6) (omega arith) in
       of_then _ (cell_law bytes registers nodes few fewer (role_at kind (i % 6)) at (omega arith)) λ r e cell.
-      of_before cell (cells_law few fewer first early left (i + 1) (kind_after (i % 6) r.value kind) r.next (omega arith) (here_next first i kind at r.value r.next h cell.short))
+      let next = here_next first i kind at r.value r.next h cell.short in
+      of_before cell (cells_law few fewer first early left (i + 1) (kind_after (i % 6) r.value kind) r.next (omega arith) next)
 
   -- no node is longer than 12 bytes
   pub in_order_end : (first : ℕ) {left i kind at next : ℕ} {words : List ℕ} → i + left ≡ 6 * nodes → Here first i kind at →
@@ -55,12 +56,12 @@ module _ (bytes : List ℕ) (registers nodes : ℕ) where
   in_order_length (more cell rest) = ap suc (in_order_length rest)
 
   taken_cell_lem : (role : Role) (at : ℕ) {r : Reading} → cond (stands role) (number_at bytes at) (reading 0 at) ≡ given r →
-      taken_cell bytes role at ≡ record { value = r.value; next = r.next }
+      taken_cell bytes role at ≡ r
   unfolding taken_cell
   taken_cell_lem role at {r} e = by (stands role) e
     where
       by : (test : Bool) → cond test (number_at bytes at) (reading 0 at) ≡ given r →
-          cond test (taken_at bytes at) (record { value = 0; next = at }) ≡ record { value = r.value; next = r.next }
+          cond test (taken_at bytes at) (record { value = 0; next = at }) ≡ r
       by true e = ap (λ (a : Answer Reading). taken_of a at) e
       by false e = ap (λ (a : Answer Reading). taken_of a at) e
 
@@ -70,5 +71,6 @@ module _ (bytes : List ℕ) (registers nodes : ℕ) where
   unfolding taken_from
   in_order_taken none = refl
   in_order_taken {i = i} {kind = kind} {at = at} (more {left = left} {r = r} cell rest) =
-      ap (λ (t : Taken). t.value ∷ taken_from bytes left (i + 1) (kind_after (i % 6) t.value kind) t.next) (taken_cell_lem (role_at kind (i % 6)) at cell.is)
+      ap (λ (t : Reading). t.value ∷ taken_from bytes left (i + 1) (kind_after (i % 6) t.value kind) t.next)
+      (taken_cell_lem (role_at kind (i % 6)) at cell.is)
       ∙ ap (λ (ws : List ℕ). r.value ∷ ws) (in_order_taken rest)

@@ -1,8 +1,8 @@
 -- Laws of the reader.
 pub mod Thens
-pub mod Fields
-pub mod Walks
-pub mod Verdicts
+pub mod Checking
+pub mod Filling
+pub mod Passing
 pub mod Refusals
 pub mod Sizes
 pub mod InOrder

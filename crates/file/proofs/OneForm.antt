@@ -6,7 +6,8 @@ use mathlib.Core.List.{List, [], ◌++◌, append_assoc, append-nil}
 use Prim.Native.Nat.{ℕ, ◌+◌, ◌%◌}
 use lib.ListN.{drop, drop_of_length-le}
 use Rattle.words.specs.Answer.{given}
-use Rattle.words.specs.Number.{Reading, reading, number_at, number_of}
+use Rattle.words.specs.Number.{reading, number_at, number_of}
+use Rattle.words.specs.declared.Reading.{Reading}
 use Rattle.words.proofs.Answers.{given_same}
 use Rattle.words.proofs.Forms.{number_form}
 use Rattle.graph.specs.declared.Role.{Role}

@@ -22,7 +22,7 @@ use Rattle.graph.specs.Checks.{runnable_check}
 use Rattle.graph.proofs.Ranges.{range_in}
 use Rattle.graph.proofs.Passed.{Passed}
 use Rattle.graph.proofs.Facts.{runnable-passed}
-use Rattle.file.specs.Reading.{Contents, kind_after, count_at, field_at, cell_at, before, cells_from, body_of, contents_of}
+use Rattle.file.specs.Reading.{Contents, kind_after, count_at, field_at, cell_at, before, cells_from, body_of, contents_of, own}
 use Rattle.file.specs.Writing.{cell_of, cells_of, header_of, file_of}
 use Rattle.file.proofs.Refusals.{cond_zero}
 use Rattle.file.proofs.Carried.{KindOf, kind_next, fault-same}
@@ -39,12 +39,12 @@ module _ (registers nodes : ℕ) where
 
   module _ (bytes : List ℕ) where
     field_read : (role : Role) (w at : ℕ) (post : List ℕ) → fault 8 registers nodes role w ≡ 0 → w < 2 ^ 32 → drop at bytes ≡ number_of w ++ post →
-        field_at bytes registers nodes role at ≡ reading w (at + length (number_of w))
+        field_at bytes (own registers nodes) role at ≡ reading w (at + length (number_of w))
     unfolding field_at
     field_read role w at post order small e = rw (number_read bytes post at w small e, order)
 
     cell_read : (role : Role) (w at : ℕ) (post : List ℕ) → fault 8 registers nodes role w ≡ 0 → w < 2 ^ 32 → drop at bytes ≡ cell_of role w ++ post →
-        cell_at bytes registers nodes role at ≡ reading w (at + length (cell_of role w))
+        cell_at bytes (own registers nodes) role at ≡ reading w (at + length (cell_of role w))
     unfolding cell_at cell_of
     cell_read Kind w at post order small e = field_read Kind w at post order small e
     cell_read Operator w at post order small e = field_read Operator w at post order small e
@@ -56,7 +56,7 @@ module _ (registers nodes : ℕ) where
     cell_read Spare w at post order small e = rw (eqb-true w 0 (cond_zero (eqb w 0) 7 order), add-zero)
 
     cells_read : (words : List ℕ) (i kind at : ℕ) (post : List ℕ) → Fit words i kind → drop at bytes ≡ cells_of words i kind ++ post →
-        cells_from bytes registers nodes (length words) i kind at ≡ given (record { words = words; next = at + length (cells_of words i kind) })
+        cells_from bytes (own registers nodes) (length words) i kind at ≡ given (record { words = words; next = at + length (cells_of words i kind) })
     unfolding cells_from cells_of
     cells_read [] i kind at post fit e = rw add-zero
     cells_read (w ∷ words) i kind at post (order, small, fit) e =
@@ -105,7 +105,8 @@ module _ (registers nodes entry : ℕ) (table : List ℕ) (ok : runnable_check r
   registers_there : drop 0 bytes ≡ number_of registers ++ (number_of nodes ++ (number_of entry ++ cells))
   unfolding file_of header_of
   registers_there =
-      append_assoc (number_of registers ++ number_of nodes) (number_of entry) cells ∙ append_assoc (number_of registers) (number_of nodes) (number_of entry ++ cells)
+      append_assoc (number_of registers ++ number_of nodes) (number_of entry) cells
+      ∙ append_assoc (number_of registers) (number_of nodes) (number_of entry ++ cells)
 
   nodes_there : drop at_nodes bytes ≡ number_of nodes ++ (number_of entry ++ cells)
   nodes_there = after bytes (number_of registers) (number_of nodes ++ (number_of entry ++ cells)) 0 registers_there
@@ -127,7 +128,7 @@ module _ (registers nodes entry : ℕ) (table : List ℕ) (ok : runnable_check r
   abbrev contents : Contents
   contents = record { header = record { registers = registers; nodes = nodes; entry = entry }; words = take (6 * nodes) table }
 
-  body_read : body_of bytes registers nodes at_entry ≡ given contents
+  body_read : body_of bytes (own registers nodes) at_entry ≡ given contents
   unfolding body_of
   body_read =
       let small : entry < 2 ^ 32 = omega (arith, passed.entry_in, passed.few_nodes) in

@@ -8,13 +8,14 @@ use native.Mathlib.Omega.{arith}
 use lib.Dec.{eqb, ltb, leb}
 use borrow.Author.Tests.{leb-true, ltb-true, eqb-true, eqb-false}
 use Rattle.words.specs.Answer.{given, refused}
-use Rattle.words.specs.Number.{Reading, reading, number_at}
+use Rattle.words.specs.Number.{reading, number_at}
+use Rattle.words.specs.declared.Reading.{Reading}
 use Rattle.words.proofs.Answers.{Of, of_given, of_refused, of_demand, of_cond, of_then, of_map, both}
 use Rattle.words.proofs.Numbers.{Numbered, Malformed, cut_off, not_shortest, number_law}
 use Rattle.graph.specs.declared.Role.{Role}
 use Rattle.graph.specs.declared.Role.TheVariants.{Kind, Operator, Comparison, Port, Register, Target, Free, Spare}
 use Rattle.graph.specs.Kinds.{fault, in_range}
-use Rattle.file.specs.Reading.{stands, count_at, field_at, cell_at}
+use Rattle.file.specs.Reading.{stands, count_at, field_at, cell_at, own}
 use Rattle.file.proofs.Sizes.{size, reach, reach_most}
 
 -- the refusals of the reader, each with the last place where it can be given
@@ -100,7 +101,7 @@ no_longer bytes Spare at r s l h = absurd (true≢false (sym s))
 
 module _ (bytes : List ℕ) (registers nodes : ℕ) (few : registers ≤ 64) (fewer : nodes ≤ 2050) where
   pub field_law : (role : Role) (at : ℕ) → stands role ≡ true → at ≤ 24593 + reach role →
-      Of (Celled bytes registers nodes role at) Refusal (field_at bytes registers nodes role at)
+      Of (Celled bytes registers nodes role at) Refusal (field_at bytes (own registers nodes) role at)
   unfolding field_at
   field_law role at s h =
       of_then _ (of_map (λ r l. l) (λ n p m. malformed_at n p at (omega (arith, reach_most role)) m) (number_law bytes at)) λ r e l.
@@ -113,7 +114,8 @@ module _ (bytes : List ℕ) (registers nodes : ℕ) (few : registers ≤ 64) (fe
       in_order r e l z =
           record { is = rw s e; in_order = z; short = no_longer bytes role at r s l (fits registers nodes role r.value few fewer l.small z) }
 
-  pub cell_law : (role : Role) (at : ℕ) → at ≤ 24593 + reach role → Of (Celled bytes registers nodes role at) Refusal (cell_at bytes registers nodes role at)
+  pub cell_law : (role : Role) (at : ℕ) → at ≤ 24593 + reach role →
+      Of (Celled bytes registers nodes role at) Refusal (cell_at bytes (own registers nodes) role at)
   unfolding cell_at
   cell_law Kind at h = field_law Kind at refl h
   cell_law Operator at h = field_law Operator at refl h

@@ -8,7 +8,8 @@ use native.Mathlib.Omega.{arith}
 use lib.ListN.{length, drop}
 use Rattle.words.specs.Answer.{Answer, given, refused, written}
 use Rattle.words.specs.Buffer.{over}
-use Rattle.words.specs.Number.{Reading, reading, number_at}
+use Rattle.words.specs.Number.{reading, number_at}
+use Rattle.words.specs.declared.Reading.{Reading}
 use Rattle.words.proofs.Answers.{Of, value_of}
 use Rattle.words.proofs.AllWords.{AllWords, words_append, words_drop}
 use Rattle.words.proofs.Numbers.{number_given}

@@ -2,14 +2,14 @@
 -- Assumes nothing.
 use mathlib.Core.Path.{◌≡◌, refl, sym, ap, ◌∙◌}
 use mathlib.Core.Bool.{Bool, true, false}
-use mathlib.Core.List.{List, [], ◌∷◌, ◌++◌}
-use Prim.Native.Nat.{ℕ, ◌+◌, ◌*◌, ◌%◌, ◌≤◌, ◌<◌}
+use mathlib.Core.List.{List, [], ◌∷◌, ◌++◌, append_assoc, append-nil}
+use Prim.Native.Nat.{ℕ, zero, suc, ◌+◌, ◌*◌, ◌%◌, ◌≤◌, ◌<◌}
 use native.Mathlib.Nat.{add-zero, zero-add}
 use native.Mathlib.Numerals.{add-one}
 use native.Mathlib.Omega.{arith}
 use lib.ListN.{length, get_or, take, drop, length-append, drop_of_length-le}
 use lib.Seq.{drop-cons}
-use borrow.Author.Tests.{le-leb, lt-leb}
+use borrow.Author.Tests.{le-leb, lt-leb, ne_eqb}
 use Rattle.words.specs.Answer.{given, refused}
 use Rattle.words.specs.Buffer.{put}
 use Rattle.words.specs.Number.{number_of}
@@ -38,94 +38,121 @@ module _ (role : Role) (w : ℕ) where
       by true s = rw (cell_there s) (number_short w)
       by false s = rw (cell_spare s) (omega arith)
 
--- one word of those left
-cells_more : (cells : List ℕ) (i kind w after : ℕ) (role : Role) → i < length cells → w ≡ get_or cells i 0 → role ≡ role_at kind (i % 6) →
-    after ≡ kind_after (i % 6) w kind → cells_of (drop i cells) i kind ≡ cell_of role w ++ cells_of (drop (i + 1) cells) (i + 1) after
+-- no word takes more than five bytes
+pub cells_short : (words : List ℕ) (i kind : ℕ) → length (cells_of words i kind) ≤ 5 * length words
 unfolding cells_of
-cells_more cells i kind w after role l v r a = rw (drop-cons cells i 0 l, add-one i, ← v, ← r, ← a)
+cells_short [] i kind = omega arith
+cells_short (w ∷ words) i kind =
+    let role : Role = role_at kind (i % 6) in
+    let rest : List ℕ = cells_of words (i + 1) (kind_after (i % 6) w kind) in
+    omega (arith, length-append (cell_of role w) rest, cell_short role w, cells_short words (i + 1) (kind_after (i % 6) w kind))
 
--- the loop: the words put into the buffer that was lent are the words from i on put into the buffer as it is
-pub record Walking (cells : List ℕ) (first : ℕ) (out₀ : List ℕ) (i kind at : ℕ) (out : List ℕ) : Type 0 where
-  pub inside : i ≤ length cells
-  pub early : at ≤ 15 + 5 * i
-  pub same : length out ≡ length out₀
-  pub bytes : put out₀ first (cells_of cells 0 0) ≡ put out at (cells_of (drop i cells) i kind)
-  pub size : first + length (cells_of cells 0 0) ≡ at + length (cells_of (drop i cells) i kind)
+-- past its word 0 a node keeps its kind
+kept : (node : List ℕ) (word : ℕ) → kind_after word (get_or node word 0) (get_or node 0 0) ≡ get_or node 0 0
+kept node zero = refl
+kept node (suc word) = let z : suc word ≡ 0 → ⊥ = λ e. omega arith in rw (ne_eqb (suc word) 0 z)
 
-pub walk_first : (cells : List ℕ) (first : ℕ) (out : List ℕ) → first ≤ 15 → Walking cells first out 0 0 first out
-walk_first cells first out h = record { inside = omega arith; early = omega arith; same = refl; bytes = refl; size = refl }
+-- one word of those left of a node
+pub word_more : (node : List ℕ) (word : ℕ) (role : Role) → word < length node → length node ≡ 6 → role ≡ role_at (get_or node 0 0) word →
+    cells_of (drop word node) word (get_or node 0 0)
+    ≡ cell_of role (get_or node word 0) ++ cells_of (drop (word + 1) node) (word + 1) (get_or node 0 0)
+unfolding cells_of
+word_more node word role l six r =
+    let e : word % 6 ≡ word = omega arith in
+    rw (drop-cons node word 0 l, add-one word, e, ← r, kept node word)
 
-module _ (cells : List ℕ) (first : ℕ) (out₀ : List ℕ) (i kind at : ℕ) (out : List ℕ) (here : Walking cells first out₀ i kind at out) where
-  module _ (w size : ℕ) (role : Role) (s : size ≡ length (cell_of role w)) where
-    pub walk_short : at + size ≤ 15 + 5 * (i + 1)
-    walk_short = omega (arith, here.early, s, cell_short role w)
+pub words_none : (node : List ℕ) (word kind : ℕ) → length node ≤ word → cells_of (drop word node) word kind ≡ []
+unfolding cells_of
+words_none node word kind l = rw (drop_of_length-le node l)
 
-    pub walk_more : (after : ℕ) (out₁ : List ℕ) → i < length cells → w ≡ get_or cells i 0 → role ≡ role_at kind (i % 6) → after ≡ kind_after (i % 6) w kind →
-        length out₁ ≡ length out → out₁ ≡ put out at (cell_of role w) → Walking cells first out₀ (i + 1) after (at + size) out₁
-    walk_more after out₁ l v r a k p =
-        let rest : List ℕ = cells_of (drop (i + 1) cells) (i + 1) after in
-        let more = cells_more cells i kind w after role l v r a in
-        let end : at + size ≡ at + length (cell_of role w) = ap (λ (n : ℕ). at + n) s in
-        record {
-          inside = omega arith;
-          early = walk_short;
-          same = k ∙ here.same;
-          bytes = here.bytes ∙ ap (put out at) more ∙ rw p (sym (put-at out at (at + size) (cell_of role w) rest end));
-          size = here.size ∙ rw more (omega (arith, s, length-append (cell_of role w) rest));
-        }
+-- the words of a node are those of the node before it, with another index
+shift : (words : List ℕ) (i kind : ℕ) → cells_of words (i + 6) kind ≡ cells_of words i kind
+unfolding cells_of
+shift [] i kind = refl
+shift (w ∷ words) i kind =
+    let word : (i + 6) % 6 ≡ i % 6 = omega arith in
+    let next : i + 6 + 1 ≡ i + 1 + 6 = omega arith in
+    let here : List ℕ = cell_of (role_at kind (i % 6)) w in
+    rw (word, next) (ap (λ (bytes : List ℕ). here ++ bytes) (shift words (i + 1) (kind_after (i % 6) w kind)))
 
-  module _ (l : length cells ≤ i) where
-    none_left : cells_of (drop i cells) i kind ≡ []
-    unfolding cells_of
-    none_left = rw (drop_of_length-le cells l)
+-- and where a node begins no kind counts
+pub fresh : (words : List ℕ) (kind : ℕ) → cells_of words 0 kind ≡ cells_of words 0 0
+unfolding role_at cells_of
+fresh [] kind = refl
+fresh (w ∷ words) kind = refl
 
-    pub walk_size : at ≡ first + length (cells_of cells 0 0)
-    walk_size = sym (here.size ∙ rw none_left (add-zero at))
+node_then : (node rest : List ℕ) (i kind : ℕ) → i + length node ≡ 6 →
+    cells_of (node ++ rest) i kind ≡ cells_of node i kind ++ cells_of rest 0 0
+unfolding cells_of
+node_then [] rest i kind e = let z : i ≡ 0 + 6 = omega arith in rw z (shift rest 0 kind ∙ fresh rest kind)
+node_then (w ∷ node) rest i kind e =
+    let here : List ℕ = cell_of (role_at kind (i % 6)) w in
+    rw append_assoc (ap (λ (bytes : List ℕ). here ++ bytes) (node_then node rest (i + 1) (kind_after (i % 6) w kind) (omega arith)))
 
-    pub walk_bytes : out ≡ put out₀ first (cells_of cells 0 0)
-    walk_bytes = sym (here.bytes ∙ rw none_left (put_nil out at))
+-- a node, and those after it
+pub node_more : (words node rest : List ℕ) → words ≡ node ++ rest → length node ≡ 6 →
+    cells_of words 0 0 ≡ cells_of node 0 0 ++ cells_of rest 0 0
+node_more words node rest e six = rw e (node_then node rest 0 0 (omega arith))
 
--- three numbers, one after the other
-module _ (registers nodes first second : ℕ) (r : first ≡ length (number_of registers)) (n : second ≡ length (number_of nodes)) where
-  pub header_second : first + second ≤ 10
-  header_second = omega (arith, r, n, number_short registers, number_short nodes)
+-- fewer words than a node's, in whole nodes, are none
+pub nodes_none : (left : List ℕ) (size : ℕ) → length left < size → size ≡ 6 → length left % 6 ≡ 0 → cells_of left 0 0 ≡ []
+unfolding cells_of
+nodes_none [] size l six whole = refl
+nodes_none (w ∷ left) size l six whole = absurd (omega arith)
 
+-- a loop that puts bytes: what is put into the buffer that was lent is what is left put into the buffer as it is
+pub record Walking (first : ℕ) (before whole : List ℕ) (at : ℕ) (out left : List ℕ) : Type 0 where
+  pub bytes : put before first whole ≡ put out at left
+  pub size : first + length whole ≡ at + length left
+
+pub walk_first : (first : ℕ) (out whole left : List ℕ) → left ≡ whole → Walking first out whole first out left
+walk_first first out whole left e = rw e record { bytes = refl; size = refl }
+
+module _ {first at : ℕ} {before whole out left : List ℕ} (here : Walking first before whole at out left) where
+  pub walk_room : (now rest : List ℕ) (size : ℕ) → left ≡ now ++ rest → size ≡ length now → at + size ≤ first + length whole
+  walk_room now rest size e s = omega (arith, here.size, ap length e, length-append now rest)
+
+  pub walk_more : (now rest : List ℕ) (next : ℕ) (after : List ℕ) → left ≡ now ++ rest → next ≡ at + length now → after ≡ put out at now →
+      Walking first before whole next after rest
+  walk_more now rest next after e n p =
+      record {
+        bytes = here.bytes ∙ ap (put out at) e ∙ rw p (sym (put-at out at next now rest n));
+        size = here.size ∙ rw e (omega (arith, n, length-append now rest));
+      }
+
+  pub walk_end : left ≡ [] → (at ≡ first + length whole) × (out ≡ put before first whole)
+  walk_end e = (sym (here.size ∙ rw e (add-zero at)), sym (here.bytes ∙ rw e (put_nil out at)))
+
+-- R, N and entry take few bytes
 module _ (registers nodes entry first second third : ℕ)
     (r : first ≡ length (number_of registers)) (n : second ≡ length (number_of nodes)) (e : third ≡ length (number_of entry)) where
-  pub header_third : first + second + third ≤ 15
-  header_third = omega (arith, header_second registers nodes first second r n, e, number_short entry)
+  pub header_short : first + second + third ≤ 15
+  header_short = omega (arith, r, n, e, number_short registers, number_short nodes, number_short entry)
 
-  pub header_size : first + second + third ≡ length (header_of registers nodes entry)
-  unfolding header_of
-  header_size =
-      let whole : length (header_of registers nodes entry) ≡ length (number_of registers ++ number_of nodes) + length (number_of entry) =
-      length-append (number_of registers ++ number_of nodes) (number_of entry) in
-      omega (arith, whole, r, n, e, length-append (number_of registers) (number_of nodes))
+  -- they are put one after the other, and then the words
+  module _ (table out₀ out₁ out₂ out₃ : List ℕ) (p : out₁ ≡ put out₀ 0 (number_of registers)) (q : out₂ ≡ put out₁ first (number_of nodes))
+      (s : out₃ ≡ put out₂ (first + second) (number_of entry)) where
+    abbrev cells : List ℕ
+    cells = cells_of (take (6 * nodes) table) 0 0
 
-pub header_bytes : (out₀ out₁ out₂ out₃ : List ℕ) (registers nodes entry first second : ℕ) →
-    first ≡ length (number_of registers) → second ≡ length (number_of nodes) →
-    out₁ ≡ put out₀ 0 (number_of registers) → out₂ ≡ put out₁ first (number_of nodes) → out₃ ≡ put out₂ (first + second) (number_of entry) →
-    out₃ ≡ put out₀ 0 (header_of registers nodes entry)
-unfolding header_of
-header_bytes out₀ out₁ out₂ out₃ registers nodes entry first second r n p q s =
-    let two : List ℕ = number_of registers ++ number_of nodes in
-    let one-two : put (put out₀ 0 (number_of registers)) first (number_of nodes) ≡ put out₀ 0 two =
-    put-at out₀ 0 first (number_of registers) (number_of nodes) (r ∙ sym (zero-add (length (number_of registers)))) in
-    let l : first + second ≡ 0 + length two = omega (arith, r, n, length-append (number_of registers) (number_of nodes)) in
-    s ∙ rw (q, p, one-two) (put-at out₀ 0 (first + second) two (number_of entry) l)
+    abbrev file : List ℕ
+    file = file_of registers nodes entry table
 
--- R, N and entry, then the words
-module _ (registers nodes entry first : ℕ) (table : List ℕ) (h : first ≡ length (header_of registers nodes entry)) where
-  pub file_size : (size : ℕ) → size ≡ first + length (cells_of (take (6 * nodes) table) 0 0) → size ≡ length (file_of registers nodes entry table)
-  unfolding file_of
-  file_size size s = s ∙ rw h (sym (length-append (header_of registers nodes entry) (cells_of (take (6 * nodes) table) 0 0)))
+    header_put : Walking 0 out₀ file (first + second + third) out₃ cells
+    unfolding header_of file_of
+    header_put =
+        let rest : List ℕ = number_of entry ++ cells in
+        let parts : file ≡ number_of registers ++ (number_of nodes ++ rest) =
+        append_assoc (number_of registers ++ number_of nodes) (number_of entry) cells ∙ append_assoc (number_of registers) (number_of nodes) rest in
+        let one = walk_more (walk_first 0 out₀ file file refl) (number_of registers) (number_of nodes ++ rest) first out₁ parts (omega (arith, r)) p in
+        let two = walk_more one (number_of nodes) rest (first + second) out₂ refl (omega (arith, n)) q in
+        walk_more two (number_of entry) cells (first + second + third) out₃ refl (omega (arith, e)) s
 
-  pub file_bytes : (out₀ out₁ out₂ : List ℕ) → out₁ ≡ put out₀ 0 (header_of registers nodes entry) →
-      out₂ ≡ put out₁ first (cells_of (take (6 * nodes) table) 0 0) → out₂ ≡ put out₀ 0 (file_of registers nodes entry table)
-  unfolding file_of
-  file_bytes out₀ out₁ out₂ p q =
-      let header : List ℕ = header_of registers nodes entry in
-      q ∙ rw p (put-at out₀ 0 first header (cells_of (take (6 * nodes) table) 0 0) (h ∙ sym (zero-add (length header))))
+    pub file_put : (size : ℕ) (out₄ : List ℕ) → size ≡ first + second + third + length cells → out₄ ≡ put out₃ (first + second + third) cells →
+        (size ≡ length file) × (out₄ ≡ put out₀ 0 file)
+    file_put size out₄ k o =
+        let done = walk_end (walk_more header_put cells [] size out₄ (sym (append-nil cells)) k o) refl in
+        (done.0 ∙ zero-add (length file), done.1)
 
 -- what was put into no bytes at all stands nowhere
 pub nothing_put : (l out : List ℕ) → length l ≡ 0 → l ++ out ≡ out
@@ -139,7 +166,8 @@ module _ (registers nodes entry : ℕ) (table : List ℕ) where
   unfolding write_answer write_output
   write_refused number place out e = (rw e, rw e)
 
-  module _ (size : ℕ) (ok : runnable_check registers nodes entry table ≡ given tt) (s : size ≡ length (file_of registers nodes entry table)) where
+  module _ (size : ℕ) (ok : runnable_check registers nodes entry table ≡ given tt)
+      (s : size ≡ length (file_of registers nodes entry table)) where
     -- a buffer that is too short
     pub write_short : (out : List ℕ) → length out < size →
         (refused 15 size ≡ write_answer registers nodes entry table (length out)) × (out ≡ write_output registers nodes entry table out)
@@ -150,5 +178,6 @@ module _ (registers nodes entry : ℕ) (table : List ℕ) where
         (given size ≡ write_answer registers nodes entry table (length out)) × (after ≡ write_output registers nodes entry table out)
     unfolding write_answer write_output
     write_done out after l p =
-        let fits : length (file_of registers nodes entry table) ≤ length out = omega arith in
-        (rw (ok, ← s, le-leb size (length out) l), rw (ok, ← s, le-leb size (length out) l) (p ∙ put-over out (file_of registers nodes entry table) fits))
+        let file : List ℕ = file_of registers nodes entry table in
+        let fits : length file ≤ length out = omega arith in
+        (rw (ok, ← s, le-leb size (length out) l), rw (ok, ← s, le-leb size (length out) l) (p ∙ put-over out file fits))

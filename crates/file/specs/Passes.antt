@@ -3,15 +3,15 @@
 -- Assumes nothing.
 use Rattle.std.specs.Prelude.{ℕ, zero, suc, ◌+◌, ◌%◌, cond, List, [], ◌∷◌}
 use Rattle.words.specs.Answer.{Answer, given, refused}
-use Rattle.words.specs.Number.{Reading, reading, number_at}
+use Rattle.words.specs.Number.{number_at}
+use Rattle.words.specs.declared.Reading.{Reading}
 use Rattle.graph.specs.declared.Role.{Role}
 use Rattle.graph.specs.Kinds.{role_at}
-use Rattle.file.specs.declared.Taken.{Taken}
 use Rattle.file.specs.Reading.{Cells, kind_after, stands}
 
 -- the first pass over the nodes: where they end
-abbrev pub end_of : Answer Cells → Answer Reading
-end_of (given c) = reading 0 c.next
+abbrev pub end_of : Answer Cells → Answer ℕ
+end_of (given c) = given c.next
 end_of (refused number place) = refused number place
 
 -- the first pass: accepted, or the refusal
@@ -20,15 +20,15 @@ passed (given a) = given tt
 passed (refused number place) = refused number place
 
 -- a number without a check: what is none counts as 0 and takes no bytes
-abbrev pub taken_of : Answer Reading → ℕ → Taken
-taken_of (given r) at = record { value = r.value; next = r.next }
+abbrev pub taken_of : Answer Reading → ℕ → Reading
+taken_of (given r) at = r
 taken_of (refused number place) at = record { value = 0; next = at }
 
-abbrev pub taken_at : List ℕ → ℕ → Taken
+abbrev pub taken_at : List ℕ → ℕ → Reading
 taken_at bytes at = taken_of (number_at bytes at) at
 
 -- a word of a node, without a check
-unfoldable pub taken_cell : List ℕ → Role → ℕ → Taken
+unfoldable pub taken_cell : List ℕ → Role → ℕ → Reading
 taken_cell bytes role at = cond (stands role) (taken_at bytes at) (record { value = 0; next = at })
 
 -- the second pass: the words from index i upward, `left` of them, in a node of this kind

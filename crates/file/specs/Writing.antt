@@ -1,20 +1,13 @@
 -- Document 01, "The file", written as document 02, K2, asks: the bytes of a graph in a table, and what the writer makes of a buffer.
 -- Assumes nothing.
 use Rattle.std.specs.Prelude.{ℕ, ◌+◌, ◌*◌, ◌%◌, cond, List, [], ◌∷◌, ◌++◌, length, take, leb}
-use Rattle.words.specs.Answer.{Answer, given, refused, demand, and_then, written}
+use Rattle.words.specs.Answer.{Answer, given, demand, and_then, written}
 use Rattle.words.specs.Buffer.{over}
 use Rattle.words.specs.Number.{number_of}
 use Rattle.graph.specs.declared.Role.{Role}
 use Rattle.graph.specs.Kinds.{role_at}
 use Rattle.graph.specs.Checks.{runnable_check}
 use Rattle.file.specs.Reading.{stands, kind_after}
-use Rattle.file.specs.declared.Writing.{Writing}
-use Rattle.file.specs.declared.Writing.TheVariants.{Written, Refused}
-
--- the documents' numbers for each case of a write
-abbrev pub writing_of : Writing → Answer ℕ
-writing_of (Written size) = given size
-writing_of (Refused number place) = refused number place
 
 -- the bytes of a node's word: a field's number; a spare word takes none
 unfoldable pub cell_of : Role → ℕ → List ℕ

@@ -1,114 +1,112 @@
 // The two passes of reading a file: the first checks and writes nothing, the second takes what was checked.
-ghost use Rattle.std.specs.Prelude.{◌≡◌, ◌^◌, ◌≤◌, ◌<◌, length};
+ghost use Rattle.std.specs.Prelude.{ℕ, ◌≡◌, ◌+◌, ◌*◌, ◌≤◌, ◌++◌, length};
 ghost use Rattle.words.specs.Answer.{given};
 ghost use Rattle.words.specs.Buffer.{put};
-ghost use Rattle.words.specs.Number.{reading_of};
-ghost use Rattle.file.specs.Reading.{read_of, cells_from, body_of, contents_of, read_answer, read_table};
+ghost use Rattle.words.specs.Refusals.{answer_of};
+ghost use Rattle.file.specs.Reading.{cells_from, body_of, contents_of, read_answer, read_table};
 ghost use Rattle.file.specs.Passes.{end_of, passed, taken_from};
 
-use super::{Verdict, numbers};
+use super::numbers;
 use graph::{Header, Limits, Role};
-use words::Number;
+use words::{Reason, Refusal};
 
-// Checks so many words of nodes, and answers the position after the last.
-pub fn check_cells(
-    bytes: &[u8],
-    registers: usize,
-    nodes: usize,
-    count: usize,
-    first: usize,
-) -> Number
-    ensures { reading_of result ≡ end_of (cells_from bytes.now registers nodes count 0 0 first) }
+// Checks the fields of a node of this kind, and answers the position after the last.
+fn check_fields(bytes: &[u8], limits: Limits, kind: u32, first: usize) -> Result<usize, Refusal>
+    ensures { answer_of result ≡ end_of (cells_from bytes.now limits 5 1 kind first) }
 {
-    let mut i: usize = 0;
-    let mut kind: u32 = 0;
     let mut at = first;
-    while i < count {
-        let word = i % 6;
-        let cell = numbers::cell(bytes, registers, nodes, graph::role_at(kind, word), at);
-        let Number::Value(value, next) = cell else {
-            return cell;
-        };
-        kind = numbers::kind_after(word, value, kind);
-        at = next;
-        i += 1;
+    for word in 1..6 {
+        let cell = numbers::cell(bytes, limits, graph::role_at(kind, word), at)?;
+        at = cell.next;
     }
-    Number::Value(0, at)
+    Ok(at)
+}
+
+// Checks the nodes, each by its kind and then its fields, and answers the position after the last.
+fn check_nodes(bytes: &[u8], limits: Limits, first: usize) -> Result<usize, Refusal>
+    ensures { answer_of result ≡ end_of (cells_from bytes.now limits (6 * limits.nodes) 0 0 first) }
+{
+    let mut at = first;
+    for _ in 0..limits.nodes {
+        let kind = numbers::field(bytes, limits, Role::Kind, at)?;
+        at = check_fields(bytes, limits, kind.value, kind.next)?;
+    }
+    Ok(at)
 }
 
 // Checks the entry, the nodes, and that no bytes follow them.
-pub fn check_body(bytes: &[u8], registers: usize, nodes: usize, at: usize) -> Number
-    requires { nodes < 2 ^ 32 }
-    ensures { passed (reading_of result) ≡ passed (body_of bytes.now registers nodes at) }
+fn check_body(bytes: &[u8], limits: Limits, at: usize) -> Result<(), Refusal>
+    ensures { answer_of result ≡ passed (body_of bytes.now limits at) }
 {
-    let entry = numbers::field(bytes, registers, nodes, Role::Target, at);
-    let Number::Value(_, first) = entry else {
-        return entry;
-    };
-    let end = check_cells(bytes, registers, nodes, 6 * nodes, first);
-    let Number::Value(_, next) = end else {
-        return end;
-    };
+    let entry = numbers::field(bytes, limits, Role::Target, at)?;
+    let next = check_nodes(bytes, limits, entry.next)?;
     if next < bytes.len() {
-        return Number::Refused(10, next);
+        return Err(Reason::BytesAfter.at(next));
     }
-    end
+    Ok(())
 }
 
 // Every check in its order: R, N, room right after N, the entry, the nodes, and last the bytes after them.
-pub fn check(bytes: &[u8], room: usize) -> Number
-    ensures { passed (reading_of result) ≡ passed (contents_of bytes.now room) }
+pub fn check(bytes: &[u8], room: usize) -> Result<(), Refusal>
+    ensures { answer_of result ≡ passed (contents_of bytes.now room) }
 {
     let limits = Limits::runnable();
-    let registers = numbers::count(bytes, limits.registers, 0);
-    let Number::Value(r, at_nodes) = registers else {
-        return registers;
-    };
-    let nodes = numbers::count(bytes, limits.nodes, at_nodes);
-    let Number::Value(n, at_entry) = nodes else {
-        return nodes;
-    };
-    let words = 6 * n as usize;
+    let registers = numbers::count(bytes, limits.registers, 0)?;
+    let nodes = numbers::count(bytes, limits.nodes, registers.next)?;
+    let words = 6 * nodes.value as usize;
     if room < words {
-        return Number::Refused(4, words);
+        return Err(Reason::ShortTable.at(words));
     }
-    check_body(bytes, r as usize, n as usize, at_entry)
+    let own = Limits {
+        registers: registers.value as usize,
+        nodes: nodes.value as usize,
+        ..limits
+    };
+    check_body(bytes, own, nodes.next)
 }
 
-// Takes so many words of nodes into the front of the table.
-pub fn take_cells(bytes: &[u8], words: usize, first: usize, table: &mut [u32])
-    requires { words ≤ length table.old }
-    ensures { table.new ≡ put table.old 0 (taken_from bytes.now words 0 0 first) }
+// Takes the words of a node, its kind and then its fields, and answers the position after the last.
+fn take_node(bytes: &[u8], first: usize, node: &mut [u32]) -> usize
+    requires { length node.old ≡ 6 }
+    ensures { (left : ℕ) → taken_from bytes.now (6 + left) 0 0 first ≡ node.new ++ taken_from bytes.now left 0 0 result }
 {
-    let mut i: usize = 0;
-    let mut kind: u32 = 0;
-    let mut at = first;
-    while i < words {
-        let word = i % 6;
-        let cell = numbers::taken_cell(bytes, graph::role_at(kind, word), at);
-        table[i] = cell.value;
-        kind = numbers::kind_after(word, cell.value, kind);
+    let kind = numbers::taken(bytes, first);
+    node[0] = kind.value;
+    let mut at = kind.next;
+    for word in 1..6 {
+        let cell = numbers::taken_cell(bytes, graph::role_at(kind.value, word), at);
+        node[word] = cell.value;
         at = cell.next;
-        i += 1;
+    }
+    at
+}
+
+// Takes the words of so many nodes into the front of the table.
+fn take_nodes(bytes: &[u8], nodes: usize, first: usize, table: &mut [u32])
+    requires { 6 * nodes ≤ length table.old }
+    ensures { table.new ≡ put table.old 0 (taken_from bytes.now (6 * nodes) 0 0 first) }
+{
+    let mut at = first;
+    // By place: once a loop over `chunks_exact_mut` is over, a proof knows no word of the table.
+    for n in 0..nodes {
+        at = take_node(bytes, at, &mut table[6 * n..6 * n + 6]);
     }
 }
 
 // An accepted file: its words into the table, and its R, N and entry.
-pub fn take(bytes: &[u8], table: &mut [u32]) -> Verdict
+pub fn take(bytes: &[u8], table: &mut [u32]) -> Header
     requires { passed (contents_of bytes.now (length table.old)) ≡ given tt }
-    ensures result_value { read_of result ≡ read_answer bytes.now (length table.old) }
+    ensures result_value { given result ≡ read_answer bytes.now (length table.old) }
     ensures table_after { table.new ≡ read_table bytes.now table.old }
 {
-    let r = numbers::taken(bytes, 0);
-    let n = numbers::taken(bytes, r.next);
-    let e = numbers::taken(bytes, n.next);
-    let registers = r.value as usize;
-    let nodes = n.value as usize;
-    let entry = e.value as usize;
-    take_cells(bytes, 6 * nodes, e.next, table);
-    Verdict::Graph(Header {
-        registers,
-        nodes,
-        entry,
-    })
+    let registers = numbers::taken(bytes, 0);
+    let nodes = numbers::taken(bytes, registers.next);
+    let entry = numbers::taken(bytes, nodes.next);
+    let header = Header {
+        registers: registers.value as usize,
+        nodes: nodes.value as usize,
+        entry: entry.value as usize,
+    };
+    take_nodes(bytes, header.nodes, entry.next, table);
+    header
 }

@@ -5,7 +5,7 @@ pub mod Words
 pub mod Passed
 pub mod InOrder
 pub mod Marking
-pub mod Bytes
+pub mod Growing
 pub mod Rounds
 pub mod Sweeps
 pub mod Reached

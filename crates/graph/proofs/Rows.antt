@@ -1,31 +1,14 @@
 -- What a kind's number settles: the role of each word, and where the node's edges lead.
 -- Assumes nothing.
 use mathlib.Core.Path.{◌≡◌, refl, sym, ap, ◌∙◌}
-use Prim.Native.Nat.{ℕ, zero, suc, ◌+◌, ◌*◌, ◌≤◌}
-use mathlib.Core.List.{List, [], ◌∷◌, ◌++◌}
-use lib.ListN.{length, get_or, replicate, get_or-eq_default}
+use Prim.Native.Nat.{ℕ, ◌+◌, ◌*◌, ◌≤◌}
+use mathlib.Core.List.{List, [], ◌∷◌}
+use lib.ListN.{length, get_or, get_or-eq_default}
 use native.Mathlib.Omega.{arith}
 use Rattle.graph.specs.declared.Role.{Role}
 use Rattle.graph.specs.declared.Role.TheVariants.{Kind, Spare}
 use Rattle.graph.specs.Kinds.{layouts, role_at}
 use Rattle.graph.specs.Nodes.{Node, stop, node_of, node_at, targets}
-
--- a list followed by its default reads as the list
-pub padded : {A : Type 0} (d : A) (k : ℕ) (l : List A) (n : ℕ) → get_or (l ++ replicate k d) n d ≡ get_or l n d
-padded d zero [] n = refl
-padded d (suc k) [] zero = refl
-padded d (suc k) [] (suc n) = padded d k [] n
-padded d k (x ∷ l) zero = refl
-padded d k (x ∷ l) (suc n) = padded d k l n
-
--- the words past a node's fields are spare
-pub spare_past : (roles : List Role) (word : ℕ) → length roles ≤ word → Spare ≡ get_or roles word Spare
-spare_past roles word h = sym (get_or-eq_default roles Spare h)
-
--- a row of fields with its spare words written out
-pub role_row : (kind spare word : ℕ) → get_or (Kind ∷ get_or layouts kind [] ++ replicate spare Spare) word Spare ≡ role_at kind word
-unfolding role_at
-role_row kind spare word = padded Spare spare (Kind ∷ get_or layouts kind []) word
 
 -- a kind past the last has no fields
 pub role_unknown : (kind word : ℕ) → 9 ≤ kind → get_or (Kind ∷ []) word Spare ≡ role_at kind word

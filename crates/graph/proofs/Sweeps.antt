@@ -6,12 +6,12 @@ use mathlib.Core.Logic.{⊎_elim}
 use Prim.Native.Nat.{ℕ, suc, ◌+◌, ◌≤◌, ◌<◌}
 use native.Mathlib.Numerals.{add-one}
 use native.Mathlib.Omega.{arith}
-use lib.ListN.{length, set, replicate, length-replicate}
+use lib.ListN.{length, set, replicate, length-set, length-replicate}
 use Rattle.graph.specs.Nodes.{Node, targets}
 use Rattle.graph.specs.Paths.{Marks, marked, mark_all, reached}
 use Rattle.graph.specs.Marks.{count, Grown, looked_at, swept}
 use Rattle.graph.proofs.Marking.{same_mark, set_only, set_there, none_marked, count_more}
-use Rattle.graph.proofs.Bytes.{grown_then}
+use Rattle.graph.proofs.Growing.{grown_then}
 use Rattle.graph.proofs.Rounds.{Closed, round_length, round_more, round_only, round_closed, reached_closed, reached_entry, reached_least}
 
 module _ (graph : ℕ → Node) where
@@ -26,6 +26,17 @@ module _ (graph : ℕ → Node) where
       → Grown marks (swept graph marks (n + 1)) after (first + second)
   unfolding swept
   swept_more marks n g h = rw add-one (grown_then (looked_at graph n) g h)
+
+-- there are as many marks as before
+pub swept_length : (graph : ℕ → Node) (marks : Marks) (nodes : ℕ) {after : Marks} {fresh : ℕ} → Grown marks (swept graph marks nodes) after fresh
+    → length after ≡ length marks
+unfolding swept
+swept_length graph marks nodes g =
+    ap length g.there ∙ round_length graph (swept graph marks) (λ (n : ℕ). marked (swept graph marks n) n) (swept_step graph marks) nodes
+
+pub first_length : (n room : ℕ) {before after : Marks} {fresh : ℕ} → before ≡ replicate room false → Grown before (set before n true) after fresh
+    → length after ≡ room
+first_length n room {before} none g = ap length g.there ∙ length-set before n true ∙ ap length none ∙ length-replicate room false
 
 module _ (graph : ℕ → Node) (nodes entry : ℕ) where
   -- marks of reached nodes, the entry among them

@@ -2,18 +2,11 @@
 -- Assumes nothing.
 use Rattle.std.specs.Prelude.{ℕ, zero, suc, ◌+◌, ◌*◌, ◌/◌, ◌%◌, cond, List, length, get_or, eqb, ltb, leb}
 use Rattle.words.specs.Answer.{Answer, given, refused, demand, and_then}
-use Rattle.graph.specs.declared.Check.{Check}
-use Rattle.graph.specs.declared.Check.TheVariants.{Accepted, Refused}
 use Rattle.graph.specs.declared.Limits.{Limits}
 use Rattle.graph.specs.Limits.{runnable, source}
 use Rattle.graph.specs.Kinds.{role_at, fault, in_range}
 use Rattle.graph.specs.Nodes.{node_at}
 use Rattle.graph.specs.Paths.{Marks, marked, reached}
-
--- document 01's number and place for each case of a check
-abbrev pub check_of : Check → Answer Unit
-check_of Accepted = given tt
-check_of (Refused number place) = refused number place
 
 -- the refusal's number for the word at an index of a table, 0 where it is in order
 unfoldable pub fault_at : ℕ → ℕ → ℕ → List ℕ → ℕ → ℕ

@@ -1,6 +1,8 @@
 -- Document 01, "The graph": the fields of each kind, and which words are in order in each role.
 -- Assumes nothing.
-use Rattle.std.specs.Prelude.{ℕ, Bool, cond, ◌&&◌, List, [], ◌∷◌, get_or, eqb, ltb, leb}
+use Rattle.std.specs.Prelude.{ℕ, Result, Ok, Err, Bool, cond, ◌&&◌, List, [], ◌∷◌, get_or, eqb, ltb, leb}
+use Rattle.words.specs.Refusals.{number_of}
+use Rattle.words.specs.declared.refusals.Reason.{Reason}
 use Rattle.graph.specs.declared.Role.{Role}
 use Rattle.graph.specs.declared.Role.TheVariants.{Kind, Operator, Comparison, Port, Register, Target, Free, Spare}
 
@@ -34,3 +36,8 @@ fault kinds registers nodes Register w = cond (ltb w registers) 0 6
 fault kinds registers nodes Target w = cond (ltb w nodes) 0 7
 fault kinds registers nodes Free w = 0
 fault kinds registers nodes Spare w = cond (eqb w 0) 0 8
+
+-- the number of what is wrong, 0 where nothing is
+abbrev pub number_in : Result Unit Reason → ℕ
+number_in (Ok _) = 0
+number_in (Err reason) = number_of reason

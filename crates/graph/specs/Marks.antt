@@ -1,13 +1,8 @@
--- How the code keeps marks and sweeps over them: what its bytes mean as marks, how many marks there are, one sweep.
+-- How the code sweeps over marks: how many there are, how they grow, one sweep.
 -- Assumes nothing.
-use Rattle.std.specs.Prelude.{ℕ, zero, suc, ◌+◌, ◌≡◌, cond, not, List, [], ◌∷◌, eqb}
+use Rattle.std.specs.Prelude.{ℕ, zero, suc, ◌+◌, ◌≡◌, cond, [], ◌∷◌}
 use Rattle.graph.specs.Nodes.{Node, targets}
 use Rattle.graph.specs.Paths.{Marks, marked, mark_all}
-
--- one byte a node: a byte other than 0 is a mark
-unfoldable pub marks_of : List ℕ → Marks
-marks_of [] = []
-marks_of (byte ∷ bytes) = not (eqb byte 0) ∷ marks_of bytes
 
 -- how many nodes are marked
 unfoldable pub count : Marks → ℕ

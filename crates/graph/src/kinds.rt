@@ -1,49 +1,40 @@
 // The kinds: the role of each word, which words are in order in a role, and where a node's edges lead.
 ghost use Rattle.std.specs.Prelude.{◌≡◌, cond, [], ◌∷◌, get_or};
-ghost use Rattle.graph.specs.Kinds.{role_at, fault, in_range};
+ghost use Rattle.words.specs.Refusals.{number_of};
+ghost use Rattle.graph.specs.Kinds.{role_at, fault, number_in, in_range};
 ghost use Rattle.graph.specs.Nodes.{targets, node_at};
 ghost use Rattle.graph.specs.Successors.{targets_of};
 
-use super::Role::{Comparison, Free, Operator, Port, Register, Spare, Target};
-use super::{Role, Successors};
+use super::Role::{Comparison, Free, Operator, Port, Register, Target};
+use super::{Limits, Role, Successors};
+use words::Reason;
 
-// The role of a word of a node, by the five fields of its kind.
-fn field(word: usize, first: Role, second: Role, third: Role, fourth: Role, fifth: Role) -> Role
-    ensures { result ≡ get_or (Role.Kind ∷ first ∷ second ∷ third ∷ fourth ∷ fifth ∷ []) word Role.Spare }
+// The role of a word of a node with these fields: the kind comes before them, spare words after.
+fn field(word: usize, fields: &[Role]) -> Role
+    ensures { result ≡ get_or (Role.Kind ∷ fields.now) word Role.Spare }
 {
-    match word {
-        0 => Role::Kind,
-        1 => first,
-        2 => second,
-        3 => third,
-        4 => fourth,
-        5 => fifth,
-        6.. => Role::Spare,
+    if word == 0 {
+        return Role::Kind;
     }
+    fields.get(word - 1).copied().unwrap_or(Role::Spare)
 }
 
-// The role of a word of a node that has no fields.
-fn no_field(word: usize) -> Role
-    ensures { result ≡ get_or (Role.Kind ∷ []) word Role.Spare }
-{
-    if word == 0 { Role::Kind } else { Role::Spare }
-}
-
-// The role of a word: one row of fields for each kind.
+// The role of a word: one row of fields for each kind, by its number, as document 01 has it.
+#[tactic(auto, unfolding(crate::specs::Kinds::role_at, crate::specs::Kinds::layouts))]
 pub fn role_at(kind: u32, word: usize) -> Role
     ensures { result ≡ role_at kind word }
 {
     match kind {
-        0 => no_field(word),
-        1 => field(word, Register, Free, Target, Spare, Spare),
-        2 => field(word, Operator, Register, Register, Register, Target),
-        3 => field(word, Comparison, Register, Register, Target, Target),
-        4 => field(word, Comparison, Register, Free, Target, Target),
-        5 => field(word, Register, Target, Spare, Spare, Spare),
-        6 => field(word, Port, Register, Target, Spare, Spare),
-        7 => field(word, Register, Spare, Spare, Spare, Spare),
-        8 => no_field(word),
-        9.. => no_field(word),
+        0 => field(word, &[]),
+        1 => field(word, &[Register, Free, Target]),
+        2 => field(word, &[Operator, Register, Register, Register, Target]),
+        3 => field(word, &[Comparison, Register, Register, Target, Target]),
+        4 => field(word, &[Comparison, Register, Free, Target, Target]),
+        5 => field(word, &[Register, Target]),
+        6 => field(word, &[Port, Register, Target]),
+        7 => field(word, &[Register]),
+        8 => field(word, &[]),
+        9.. => field(word, &[]),
     }
 }
 
@@ -54,27 +45,27 @@ pub fn in_range(low: usize, high: usize, n: usize) -> bool
     low <= n && n <= high
 }
 
-// 0 where the test passes, and else the refusal's number.
-fn unless(test: bool, number: u32) -> u32
-    ensures { result ≡ cond test 0 number }
+// Passed, or what is wrong.
+fn unless(test: bool, reason: Reason) -> Result<(), Reason>
+    ensures { number_in result ≡ cond test 0 (number_of reason) }
 {
-    if test { 0 } else { number }
+    if test { Ok(()) } else { Err(reason) }
 }
 
-// The refusal's number for a word in a role, 0 where the word is in order.
-pub fn fault(kinds: u32, registers: usize, nodes: usize, role: Role, word: u32) -> u32
-    ensures { result ≡ fault kinds registers nodes role word }
+// What is wrong with a word in a role, in a graph of these registers, nodes and kinds.
+pub fn fault(limits: Limits, role: Role, word: u32) -> Result<(), Reason>
+    ensures { number_in result ≡ fault limits.kinds limits.registers limits.nodes role word }
 {
     let w = word as usize;
     match role {
-        Role::Kind => unless(in_range(1, kinds as usize, w), 5),
-        Role::Operator => unless(w < 7, 5),
-        Role::Comparison => unless(w < 6, 5),
-        Role::Port => unless(w < 256, 5),
-        Role::Register => unless(w < registers, 6),
-        Role::Target => unless(w < nodes, 7),
-        Role::Free => 0,
-        Role::Spare => unless(w == 0, 8),
+        Role::Kind => unless(in_range(1, limits.kinds as usize, w), Reason::Unknown),
+        Role::Operator => unless(w < 7, Reason::Unknown),
+        Role::Comparison => unless(w < 6, Reason::Unknown),
+        Role::Port => unless(w < 256, Reason::Unknown),
+        Role::Register => unless(w < limits.registers, Reason::NoRegister),
+        Role::Target => unless(w < limits.nodes, Reason::NoNode),
+        Role::Free => Ok(()),
+        Role::Spare => unless(w == 0, Reason::SpareWord),
     }
 }
 
@@ -85,7 +76,8 @@ fn target(table: &[u32], word: usize) -> usize
     words::word(table, word) as usize
 }
 
-// Where the edges of a node lead; a node past the end has none.
+// Where the edges of a node lead, by the number of its kind, as document 01 has it; a node past the end has none.
+#[tactic(auto, unfolding(crate::specs::Nodes::node_at, crate::specs::Nodes::node_of))]
 pub fn targets(table: &[u32], node: usize) -> Successors
     ensures { targets_of result ≡ targets (node_at table.now node) }
 {

@@ -2,8 +2,11 @@
 #![tactic(auto)]
 
 ghost use Rattle.std.specs.Prelude.{◌≡◌};
+ghost use Rattle.words.specs.Refusals.{answer_of};
 ghost use Rattle.graph.specs.Limits.{runnable, source};
-ghost use Rattle.graph.specs.Checks.{check_of, runnable_check, source_check};
+ghost use Rattle.graph.specs.Checks.{runnable_check, source_check};
+
+use words::Refusal;
 
 mod kinds;
 mod marks;
@@ -12,15 +15,8 @@ mod table;
 
 pub use kinds::{fault, role_at, targets};
 
-// What a check of a graph answers: accepted, or the refusal's number and place.
-#[derive(Clone, Copy)]
-pub enum Check {
-    Accepted,
-    Refused(u32, usize),
-}
-
 // What a word of a node stands for.
-#[derive(Clone, Copy)]
+#[derive(Clone, Copy, Debug, PartialEq, Eq)]
 pub enum Role {
     Kind,
     Operator,
@@ -33,15 +29,15 @@ pub enum Role {
 }
 
 // Where the edges of a node lead, the first target first.
-#[derive(Clone, Copy)]
+#[derive(Clone, Copy, Debug, PartialEq, Eq)]
 pub enum Successors {
     None,
     One(usize),
     Two(usize, usize),
 }
 
-// How large a graph may be, and its last kind.
-#[derive(Clone, Copy)]
+// How many registers and nodes, and the last kind: at most, of a sort of graphs; or just those of one graph.
+#[derive(Clone, Copy, Debug, PartialEq, Eq)]
 pub struct Limits {
     pub registers: usize,
     pub nodes: usize,
@@ -61,6 +57,7 @@ impl Limits {
 
     pub const SOURCE_KINDS: u32 = 7;
 
+    // Two functions, each with its constants, as document 01 has them.
     pub fn runnable() -> Self
         ensures { result ≡ runnable }
     {
@@ -83,28 +80,25 @@ impl Limits {
 }
 
 // A graph's R, N and entry.
-#[derive(Clone, Copy)]
+#[derive(Clone, Copy, Debug, PartialEq, Eq)]
 pub struct Header {
     pub registers: usize,
     pub nodes: usize,
     pub entry: usize,
 }
 
-// Whether a table holds a runnable graph: accepted, or the first refusal.
-pub fn check_runnable(registers: usize, nodes: usize, entry: usize, table: &[u32]) -> Check
-    ensures { check_of result ≡ runnable_check registers nodes entry table.now }
+// Whether a table holds a runnable graph: accepted, or the first refusal. The header is not one value with the table: that is lent memory,
+// mostly longer than its graph, and the two come from different places.
+pub fn check_runnable(header: Header, table: &[u32]) -> Result<(), Refusal>
+    ensures { answer_of result ≡ runnable_check header.registers header.nodes header.entry table.now }
 {
-    table::check(Limits::runnable(), registers, nodes, entry, table)
+    table::check(Limits::runnable(), header, table)
 }
 
 // Whether a table holds a source graph: accepted, or the first refusal.
-pub fn check_source(registers: usize, nodes: usize, entry: usize, table: &[u32]) -> Check
-    ensures { check_of result ≡ source_check registers nodes entry table.now }
+pub fn check_source(header: Header, table: &[u32]) -> Result<(), Refusal>
+    ensures { answer_of result ≡ source_check header.registers header.nodes header.entry table.now }
 {
-    let first = table::check(Limits::source(), registers, nodes, entry, table);
-    let Check::Accepted = first else {
-        return first;
-    };
-    let marks = reach::reached(nodes, entry, table);
-    marks::lowest_unmarked(&marks, nodes)
+    table::check(Limits::source(), header, table)?;
+    reach::reached(header, table).lowest_unmarked(header.nodes)
 }

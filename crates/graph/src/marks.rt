@@ -1,65 +1,67 @@
-// Marks, one byte a node: what the bytes are is known here alone.
-ghost use Rattle.std.specs.Prelude.{◌≡◌, true, false, set, replicate};
+// Marks, one a node of a source: how they are kept is known here alone.
+ghost use Rattle.std.specs.Prelude.{◌≡◌, ◌≤◌, true, false, set, replicate};
+ghost use Rattle.words.specs.Refusals.{answer_of};
 ghost use Rattle.graph.specs.Paths.{marked};
-ghost use Rattle.graph.specs.Marks.{marks_of, Grown};
-ghost use Rattle.graph.specs.Checks.{check_of, unmarked_from};
+ghost use Rattle.graph.specs.Paths.{Marks as MarkList};
+ghost use Rattle.graph.specs.Marks.{Grown};
+ghost use Rattle.graph.specs.Checks.{unmarked_from};
 
-use super::Check;
+use std::marker::Model;
+use words::{Reason, Refusal};
 
-// Room for a mark of every node of a source.
-pub type Marks = [u8; 256];
-
-// No mark at all.
-pub fn none() -> Marks
-    ensures { marks_of result ≡ replicate 256 false }
-{
-    [0u8; 256]
+#[derive(Drop)]
+pub struct Marks {
+    marks: [bool; 256],
 }
 
-// Whether a node has a mark.
-pub fn marked(marks: &[u8], n: usize) -> bool
-    ensures { result ≡ marked (marks_of marks.now) n }
-{
-    if n < marks.len() {
-        marks[n] != 0
-    } else {
-        false
-    }
+impl Model for Marks {
+    ghost Value = { MarkList };
+
+    ghost view = { λ m. m.marks };
 }
 
-// Marks a node; how many marks are new.
-pub fn mark(marks: &mut [u8], n: usize) -> usize
-    ensures { Grown (marks_of marks.old) (set (marks_of marks.old) n true) (marks_of marks.new) result }
-{
-    if marks.len() <= n {
-        return 0;
-    }
-    if marked(marks, n) {
-        return 0;
-    }
-    marks[n] = 1;
-    1
-}
-
-// Marks two nodes; how many marks are new.
-pub fn mark_two(marks: &mut [u8], then: usize, other: usize) -> usize
-    ensures { Grown (marks_of marks.old) (set (set (marks_of marks.old) then true) other true) (marks_of marks.new) result }
-{
-    let first = mark(marks, then);
-    let second = mark(marks, other);
-    first + second
-}
-
-// The lowest node without a mark.
-pub fn lowest_unmarked(marks: &[u8], nodes: usize) -> Check
-    ensures { check_of result ≡ unmarked_from (marks_of marks.now) nodes 0 }
-{
-    let mut n = 0;
-    while n < nodes {
-        if !marked(marks, n) {
-            return Check::Refused(9, n);
+impl Marks {
+    // No mark at all.
+    pub(crate) fn none() -> Self
+        ensures { result ≡ replicate 256 false }
+    {
+        Marks {
+            marks: [false; 256],
         }
-        n += 1;
     }
-    Check::Accepted
+
+    // Whether a node has a mark.
+    pub(crate) fn has(&self, n: usize) -> bool
+        ensures { result ≡ marked self.now n }
+    {
+        n < self.marks.len() && self.marks[n]
+    }
+
+    // Marks a node; how many marks are new.
+    pub(crate) fn mark(&mut self, n: usize) -> usize
+        ensures grown { Grown self.old (set self.old n true) self.new result }
+        ensures few { result ≤ 1 }
+    {
+        let marks = &self.marks;
+        if marks.len() <= n {
+            return 0;
+        }
+        if marks[n] {
+            return 0;
+        }
+        self.marks[n] = true;
+        1
+    }
+
+    // The lowest node without a mark is refused.
+    pub(crate) fn lowest_unmarked(&self, nodes: usize) -> Result<(), Refusal>
+        ensures { answer_of result ≡ unmarked_from self.now nodes 0 }
+    {
+        for n in 0..nodes {
+            if !self.has(n) {
+                return Err(Reason::Unreachable.at(n));
+            }
+        }
+        Ok(())
+    }
 }

@@ -1,50 +1,55 @@
 // The checks of a table's numbers and words, in document 01's order.
 ghost use Rattle.std.specs.Prelude.{◌≤◌, ◌≡◌};
-ghost use Rattle.graph.specs.Checks.{check_of, fault_at, words_from, table_check};
+ghost use Rattle.words.specs.Refusals.{answer_of};
+ghost use Rattle.graph.specs.Kinds.{number_in};
+ghost use Rattle.graph.specs.Checks.{fault_at, words_from, table_check};
 
-use super::{Check, Limits, kinds};
+use super::{Header, Limits, kinds};
+use words::{Reason, Refusal};
 
-// The refusal's number for the word at an index, 0 where it is in order.
-fn fault_at(last: u32, registers: usize, nodes: usize, table: &[u32], i: usize) -> u32
-    ensures { result ≡ fault_at last registers nodes table.now i }
+// What is wrong with the word at an index.
+fn fault_at(limits: Limits, table: &[u32], i: usize) -> Result<(), Reason>
+    ensures { number_in result ≡ fault_at limits.kinds limits.registers limits.nodes table.now i }
 {
     let kind = words::word(table, i / 6 * 6);
     let role = kinds::role_at(kind, i % 6);
-    kinds::fault(last, registers, nodes, role, words::word(table, i))
+    kinds::fault(limits, role, words::word(table, i))
 }
 
 // The words below a count, upward; the tail is not looked at.
-fn check_words(last: u32, registers: usize, nodes: usize, table: &[u32], count: usize) -> Check
-    ensures { check_of result ≡ words_from last registers nodes table.now count 0 }
+fn check_words(limits: Limits, table: &[u32], count: usize) -> Result<(), Refusal>
+    ensures { answer_of result ≡ words_from limits.kinds limits.registers limits.nodes table.now count 0 }
 {
-    let mut i = 0;
-    while i < count {
-        let number = fault_at(last, registers, nodes, table, i);
-        if 0 < number {
-            return Check::Refused(number, i);
+    for i in 0..count {
+        if let Err(reason) = fault_at(limits, table, i) {
+            return Err(reason.at(i));
         }
-        i += 1;
     }
-    Check::Accepted
+    Ok(())
 }
 
 // R and N, room, entry, then the words.
-pub fn check(limits: Limits, registers: usize, nodes: usize, entry: usize, table: &[u32]) -> Check
+pub fn check(limits: Limits, header: Header, table: &[u32]) -> Result<(), Refusal>
     requires { limits.nodes ≤ 2050 }
-    ensures { check_of result ≡ table_check limits registers nodes entry table.now }
+    ensures { answer_of result ≡ table_check limits header.registers header.nodes header.entry table.now }
 {
-    if !kinds::in_range(1, limits.registers, registers) {
-        return Check::Refused(3, 0);
+    if !kinds::in_range(1, limits.registers, header.registers) {
+        return Err(Reason::OutOfRange.at(0));
     }
-    if !kinds::in_range(1, limits.nodes, nodes) {
-        return Check::Refused(3, 0);
+    if !kinds::in_range(1, limits.nodes, header.nodes) {
+        return Err(Reason::OutOfRange.at(0));
     }
-    let count = 6 * nodes;
+    let count = 6 * header.nodes;
     if table.len() < count {
-        return Check::Refused(4, count);
+        return Err(Reason::ShortTable.at(count));
     }
-    if nodes <= entry {
-        return Check::Refused(7, 0);
+    if header.nodes <= header.entry {
+        return Err(Reason::NoNode.at(0));
     }
-    check_words(limits.kinds, registers, nodes, table, count)
+    let own = Limits {
+        registers: header.registers,
+        nodes: header.nodes,
+        ..limits
+    };
+    check_words(own, table, count)
 }

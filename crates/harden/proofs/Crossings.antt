@@ -40,7 +40,8 @@ module _ (s : Source) (m : ℕ) where
   crosses_edge (ret a) is h led = absurd_bool led
   crosses_edge stop is h led = absurd_bool led
 
-  edge_crosses : (node : Node) {l : ℕ} → is_branch node ≡ false → 0 < length (targets node) → get_or (targets node) 0 0 ≡ l → is_leader s l ≡ true → crosses (is_leader s) node ≡ true
+  edge_crosses : (node : Node) {l : ℕ} → is_branch node ≡ false → 0 < length (targets node) → get_or (targets node) 0 0 ≡ l
+      → is_leader s l ≡ true → crosses (is_leader s) node ≡ true
   edge_crosses (go action next) plain slot leads led = rw leads led
   edge_crosses (branch c a b t f) plain slot leads led = absurd_bool (sym plain)
   edge_crosses (ret a) plain slot leads led = absurd (omega arith)
@@ -64,7 +65,8 @@ module _ (s : Source) where
   )
 
   -- leaders with one signature are one
-  pub sign_apart : Distinct s.plan → s.nodes ≤ 256 → (t f : ℕ) → t < s.nodes → f < s.nodes → is_leader s t ≡ true → is_leader s f ≡ true → sign s t ≡ sign s f → t ≡ f
+  pub sign_apart : Distinct s.plan → s.nodes ≤ 256 → (t f : ℕ) → t < s.nodes → f < s.nodes → is_leader s t ≡ true → is_leader s f ≡ true
+      → sign s t ≡ sign s f → t ≡ f
   unfolding is_leader sign
   sign_apart = signature_apart s.graph s.nodes s.entry s.plan
 

@@ -57,7 +57,14 @@ among_slots (t ∷ ts) n h = by (eqb t n) refl (among_slots ts n)
     by false e rest =
         let two : 2 ≤ 0 + among ts n = rw e at h in
         let s = rest (omega arith) in
-        record { slot₁ = suc s.slot₁; slot₂ = suc s.slot₂; order = omega (arith, s.order); below = omega (arith, s.below); holds₁ = s.holds₁; holds₂ = s.holds₂ }
+        record {
+          slot₁ = suc s.slot₁;
+          slot₂ = suc s.slot₂;
+          order = omega (arith, s.order);
+          below = omega (arith, s.below);
+          holds₁ = s.holds₁;
+          holds₂ = s.holds₂;
+        }
 
 pub slot_among : (ts : List ℕ) (n j : ℕ) → j < length ts → get_or ts j 0 ≡ n → 0 < among ts n
 slot_among [] n j h e = absurd (not-suc-le-zero h)
@@ -71,7 +78,7 @@ slots_among (t ∷ ts) n zero (suc j) o h p q = rw (eq-eqb t n p) (omega (arith,
 slots_among (t ∷ ts) n (suc i) (suc j) o h p q = omega (arith, slots_among ts n i j (le_of_suc-le-suc o) (le_of_suc-le-suc h) p q)
 
 pub absurd_bool : {A : Type 0} → ◌≡◌ {A = Bool} false true → A
-absurd_bool e = let z : ◌≡◌ {A = ℕ} 0 1 = cc in absurd (omega arith)
+absurd_bool e = absurd (cc)
 
 -- ---- a graph
 

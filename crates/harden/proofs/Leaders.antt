@@ -203,7 +203,9 @@ module _ (registers nodes entry : ℕ) (graph : ℕ → Node) (ok : SourceGraph 
 -- the same of a table that `check_source` accepts
 module _ (registers nodes entry : ℕ) (table : List ℕ) (accepted : source_check registers nodes entry table ≡ given tt) where
   pub table_inside : (n : ℕ) → n < nodes → leader (node_at table) nodes entry n ≡ false → Inside (node_at table) nodes entry n
-  table_inside = inside_block registers nodes entry (node_at table) (source_facts registers nodes entry table accepted) (path_short registers nodes entry table accepted)
+  table_inside = inside_block registers nodes entry (node_at table) (source_facts registers nodes entry table accepted)
+      (path_short registers nodes entry table accepted)
 
   pub table_head : (n : ℕ) → n < nodes → leader (node_at table) nodes entry (block_head (node_at table) nodes entry n) ≡ true
-  table_head = head_leads registers nodes entry (node_at table) (source_facts registers nodes entry table accepted) (path_short registers nodes entry table accepted)
+  table_head = head_leads registers nodes entry (node_at table) (source_facts registers nodes entry table accepted)
+      (path_short registers nodes entry table accepted)

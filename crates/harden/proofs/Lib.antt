@@ -5,9 +5,9 @@ pub mod Writes
 pub mod Successors
 pub mod Passes
 pub mod Turns
+pub mod Answers
 pub mod Graded
 pub mod Signatures
-pub mod Answers
 pub mod Edges
 pub mod Leaders
 pub mod Ranks

@@ -36,7 +36,8 @@ module _ (graph : ℕ → Node) (nodes entry : ℕ) where
   pub rank_past : (a b : ℕ) → leader graph nodes entry a ≡ true → a < b → rank graph nodes entry a < rank graph nodes entry b
   rank_past a b h l = omega (arith, rank-leader a h, rank_up (suc a) b l)
 
-  pub rank_apart : (a b : ℕ) → leader graph nodes entry a ≡ true → leader graph nodes entry b ≡ true → rank graph nodes entry a ≡ rank graph nodes entry b → a ≡ b
+  pub rank_apart : (a b : ℕ) → leader graph nodes entry a ≡ true → leader graph nodes entry b ≡ true
+      → rank graph nodes entry a ≡ rank graph nodes entry b → a ≡ b
   rank_apart a b p q e = omega (arith, by (dec_lt a b) (dec_lt b a))
     where
       by : Dec (a < b) → Dec (b < a) → (b ≤ a) × (a ≤ b)

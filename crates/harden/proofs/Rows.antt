@@ -127,7 +127,8 @@ branch_rows s n c a b t f h e =
       row_6 = row 6 (omega arith);
     }
   where
-    row : (j : ℕ) → j < 7 → row_at s (group_at s n + j) ≡ get_or (group_of s.registers (s.nodes + 1) (group_at s n) (sign s) (crossing s n) n (branch c a b t f)) j stop
+    row : (j : ℕ) → j < 7
+        → row_at s (group_at s n + j) ≡ get_or (group_of s.registers (s.nodes + 1) (group_at s n) (sign s) (crossing s n) n (branch c a b t f)) j stop
     row j k =
         rw e at (row_group s n j h (rw e k))
 
@@ -159,7 +160,8 @@ crossing_rows s n action l h e led =
     row j k = rw (e, crossed) at (row_group s n j h (rw (e, crossed) k))
 
 -- all other rows are the source's
-pub inside_row : (s : Source) (n : ℕ) (action : Action) (next : ℕ) → n < s.nodes → s.graph n ≡ go action next → is_leader s next ≡ false → row_at s n ≡ go action next
+pub inside_row : (s : Source) (n : ℕ) (action : Action) (next : ℕ) → n < s.nodes → s.graph n ≡ go action next → is_leader s next ≡ false
+    → row_at s n ≡ go action next
 inside_row s n action next h e plain =
     row_own s n h
     ∙ ap (own_row (group_at s n) (crossing s n)) e
@@ -187,7 +189,8 @@ word_at (row ∷ rows) rest (suc n) j h k =
 
 -- the node that a node's six words are
 decoded : (node : Node) →
-    node_of (get_or (words_of node) 0 0) (get_or (words_of node) 1 0) (get_or (words_of node) 2 0) (get_or (words_of node) 3 0) (get_or (words_of node) 4 0) (get_or (words_of node) 5 0) ≡ node
+    node_of (get_or (words_of node) 0 0) (get_or (words_of node) 1 0) (get_or (words_of node) 2 0)
+    (get_or (words_of node) 3 0) (get_or (words_of node) 4 0) (get_or (words_of node) 5 0) ≡ node
 unfolding node_of
 decoded (go (const d k) next) = refl
 decoded (go (op o d a b) next) = refl

@@ -178,7 +178,9 @@ module _ (s : Source) (ok : SourceGraph s.registers s.nodes s.entry s.graph) whe
 
 -- the same of a table that `check_source` accepts
 pub accepted_runnable : (registers nodes entry : ℕ) (table rest : List ℕ) → source_check registers nodes entry table ≡ given tt
-    → runnable_check (registers + 2) (hardened_count (source_of registers nodes entry table)) nodes (hardened_table (source_of registers nodes entry table) ++ rest) ≡ given tt
+    → runnable_check (registers + 2) (hardened_count (source_of registers nodes entry table)) nodes
+    (hardened_table (source_of registers nodes entry table) ++ rest)
+    ≡ given tt
 unfolding source_of
 accepted_runnable registers nodes entry table rest accepted =
     hardened-runnable (source_of registers nodes entry table) (source_facts registers nodes entry table accepted) rest

@@ -12,18 +12,17 @@ use lib.Seq.{get_or-set_same, get_or-set_other}
 use lib.Dec.{eqb, ltb}
 use Rattle.graph.specs.Nodes.{Node, go, branch, ret, stop, targets}
 use Rattle.harden.specs.Blocks.{among, leader, predecessor, head_in, block_head, rank, Plan, signature}
-use Rattle.harden.specs.Passes.{zeros, leads, preceded, preceders_below, head_by, leaders_below, filled, as_leader, as_block, signed, block_signatures}
+use Rattle.harden.specs.declared.grading.Grade.{Grade}
+use Rattle.harden.specs.Passes.{zeros, leads, preceded, preceders_below, head_by, leaders_below, filled, as_leader, as_block, block_signatures}
 use Rattle.harden.proofs.Passes.{zeros-length, zeros-at}
-use Rattle.harden.proofs.Graded.{stored_there, stored_elsewhere}
+use Rattle.harden.proofs.Graded.{stored_at}
 
 -- what a filled list holds
 filled-length : (f : ℕ → ℕ) (l : List ℕ) (n : ℕ) → length (filled f l n) ≡ length l
-unfolding filled
 filled-length f l zero = refl
 filled-length f l (suc n) = length-set (filled f l n) n (f n) ∙ filled-length f l n
 
 filled_at : (f : ℕ → ℕ) (l : List ℕ) (n k : ℕ) → n ≤ length l → k < n → get_or (filled f l n) k 0 ≡ f k
-unfolding filled
 filled_at f l zero k h below = absurd (not-suc-le-zero below)
 filled_at f l (suc n) k h below =
     ⊎_elim
@@ -33,27 +32,24 @@ filled_at f l (suc n) k h below =
 
 -- predecessors
 module _ (l : List ℕ) (m n : ℕ) (h : n < length l) where
-  edge_preceded : (next : ℕ) (test : Bool) → eqb next n ≡ test →
-      get_or (set l next m) n 0 ≡ cond (ltb 0 (cond test 1 0 + 0)) m (get_or l n 0)
-  edge_preceded next true e = stored_there l next n m h e
-  edge_preceded next false e = stored_elsewhere l next n m e
-
-  branch_preceded : (t f : ℕ) (to of : Bool) → eqb t n ≡ to → eqb f n ≡ of →
-      get_or (set (set l t m) f m) n 0 ≡ cond (ltb 0 (cond to 1 0 + (cond of 1 0 + 0))) m (get_or l n 0)
-  branch_preceded t f true true p q = stored_there (set l t m) f n m (rw length-set h) q
-  branch_preceded t f false true p q = stored_there (set l t m) f n m (rw length-set h) q
-  branch_preceded t f true false p q = stored_elsewhere (set l t m) f n m q ∙ stored_there l t n m h p
-  branch_preceded t f false false p q = stored_elsewhere (set l t m) f n m q ∙ stored_elsewhere l t n m p
-
   node_preceded : (node : Node) → get_or (preceded m node l) n 0 ≡ cond (ltb 0 (among (targets node) n)) m (get_or l n 0)
-  unfolding preceded
-  node_preceded (go action next) = edge_preceded next (eqb next n) refl
-  node_preceded (branch c a b t f) = branch_preceded t f (eqb t n) (eqb f n) refl refl
+  node_preceded (go action next) = stored_at l next n m 0 h ∙ by (eqb next n)
+    where
+      by : (test : Bool) → cond test m (get_or l n 0) ≡ cond (ltb 0 (cond test 1 0 + 0)) m (get_or l n 0)
+      by true = refl
+      by false = refl
+  node_preceded (branch c a b t f) =
+      stored_at (set l t m) f n m 0 (rw length-set h) ∙ rw (stored_at l t n m 0 h) (by (eqb t n) (eqb f n))
+    where
+      by : (to of : Bool) → cond of m (cond to m (get_or l n 0)) ≡ cond (ltb 0 (cond to 1 0 + (cond of 1 0 + 0))) m (get_or l n 0)
+      by true true = refl
+      by true false = refl
+      by false true = refl
+      by false false = refl
   node_preceded (ret a) = refl
   node_preceded stop = refl
 
 preceded-length : (m : ℕ) (node : Node) (l : List ℕ) → length (preceded m node l) ≡ length l
-unfolding preceded
 preceded-length m (go action next) l = length-set l next m
 preceded-length m (branch c a b t f) l = length-set (set l t m) f m ∙ length-set l t m
 preceded-length m (ret a) l = refl
@@ -61,12 +57,11 @@ preceded-length m stop l = refl
 
 module _ (graph : ℕ → Node) where
   preceders_length : (m : ℕ) → length (preceders_below graph zeros m) ≡ 256
-  unfolding preceders_below
   preceders_length zero = zeros-length
   preceders_length (suc m) = preceded-length m (graph m) (preceders_below graph zeros m) ∙ preceders_length m
 
   preceders_at : (m n : ℕ) → n < 256 → get_or (preceders_below graph zeros m) n 0 ≡ predecessor graph m n
-  unfolding preceders_below predecessor
+  unfolding predecessor
   preceders_at zero n h = zeros-at n h
   preceders_at (suc m) n h =
       node_preceded (preceders_below graph zeros m) m n (rw preceders_length h) (graph m)
@@ -85,29 +80,30 @@ module _ (graph : ℕ → Node) (nodes entry : ℕ) (some : 0 < nodes) where
   pub head_in_lem : (steps n : ℕ) → n < nodes → head_in graph nodes entry steps n < nodes
   unfolding head_in
   head_in_lem zero n h = h
-  head_in_lem (suc steps) n h = by (leader graph nodes entry n) (head_in_lem steps (predecessor graph nodes n) (predecessor_in graph nodes nodes n some (omega arith)))
+  head_in_lem (suc steps) n h =
+      by (leader graph nodes entry n) (head_in_lem steps (predecessor graph nodes n) (predecessor_in graph nodes nodes n some (omega arith)))
     where
       by : (test : Bool) → head_in graph nodes entry steps (predecessor graph nodes n) < nodes →
           cond test n (head_in graph nodes entry steps (predecessor graph nodes n)) < nodes
       by true further = h
       by false further = further
 
-module _ (graph : ℕ → Node) (nodes entry : ℕ) (grades : List ℕ) (few : nodes ≤ 256) (some : 0 < nodes)
+module _ (graph : ℕ → Node) (nodes entry : ℕ) (grades : List Grade) (few : nodes ≤ 256) (some : 0 < nodes)
     (right : (n : ℕ) → n < nodes → leads grades n ≡ leader graph nodes entry n) where
   heads : (steps n : ℕ) → n < nodes → head_by grades (preceders_below graph zeros nodes) steps n ≡ head_in graph nodes entry steps n
-  unfolding head_by head_in
+  unfolding head_in
   heads zero n h = refl
   heads (suc steps) n h =
       rw (right n h, preceders_at graph nodes n (omega arith), heads steps (predecessor graph nodes n) (predecessor_in graph nodes nodes n some (omega arith)))
 
   ranks : (n : ℕ) → n ≤ nodes → leaders_below grades n ≡ rank graph nodes entry n
-  unfolding leaders_below rank
+  unfolding rank
   ranks zero h = refl
   ranks (suc n) h = rw (ranks n (omega arith), right n h)
 
   -- the signatures that the passes find
   pub signatures_found : (plan : Plan) (n : ℕ) → n < nodes →
-      signed (block_signatures plan graph grades nodes) n ≡ signature plan graph nodes entry n
+      get_or (block_signatures plan graph grades nodes) n 0 ≡ signature plan graph nodes entry n
   unfolding block_signatures signature block_head
   signatures_found plan n h =
       let head = head_in graph nodes entry nodes n in

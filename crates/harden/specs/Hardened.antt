@@ -2,14 +2,12 @@
 -- Assumes nothing.
 use Rattle.std.specs.Prelude.{ℕ, zero, suc, ◌+◌, ◌*◌, Bool, true, false, cond, List, [], ◌∷◌, ◌++◌, length, get_or, leb}
 use Rattle.std.specs.Int.Bits.{bit_xor}
-use Rattle.words.specs.Answer.{Answer, given, refused, demand, and_then, written}
+use Rattle.words.specs.Answer.{Answer, given, demand, and_then, written}
 use Rattle.words.specs.Buffer.{over}
 use Rattle.graph.specs.Nodes.{Node, go, branch, ret, stop, const, op, Operand, constant, node_at, words_of}
 use Rattle.graph.specs.Checks.{source_check}
 use Rattle.harden.specs.Blocks.{Plan, leader, signature, crosses, one_plus_rank}
 use Rattle.graph.specs.declared.Header.{Header}
-use Rattle.harden.specs.declared.Hardening.{Hardening}
-use Rattle.harden.specs.declared.Hardening.TheVariants.{Hardened, Refused}
 
 -- the extra nodes of a branch, and of a node whose edge crosses or not
 abbrev pub extra : Bool → Node → ℕ
@@ -150,11 +148,6 @@ hardened_table s = table_of (hardened_rows s)
 unfoldable pub source_of : ℕ → ℕ → ℕ → List ℕ → Source
 source_of registers nodes entry table =
     record { plan = one_plus_rank; registers = registers; nodes = nodes; entry = entry; graph = node_at table }
-
--- document 01's numbers for each case of a hardening
-abbrev pub hardening_of : Hardening → Answer Header
-hardening_of (Hardened header) = given header
-hardening_of (Refused number place) = refused number place
 
 -- the source's checks, then room for 6H words in an output of this length
 unfoldable pub harden_answer : ℕ → ℕ → ℕ → List ℕ → ℕ → Answer Header

@@ -1,58 +1,70 @@
 // Which nodes are leaders: one pass over the edges, in which each node gets a grade.
-ghost use Rattle.std.specs.Prelude.{◌≤◌, ◌≡◌, set};
+ghost use Rattle.std.specs.Prelude.{◌≡◌, get_or, set};
 ghost use Rattle.graph.specs.Nodes.{node_at};
-ghost use Rattle.harden.specs.Passes.{zeros, leads, higher, graded, grades_below};
+ghost use Rattle.harden.specs.Passes.{ungraded, leads, raised, graded, grades_below};
 
-use super::writing;
+use super::accepted::Accepted;
 use graph::Successors;
 
-// As many zeros as a source has nodes at most.
-pub fn zeros() -> [u32; 256]
-    ensures { result ≡ zeros }
-{
-    [0u32; 256]
+// What the edges seen so far say of a node.
+#[derive(Clone, Copy, PartialEq, Eq)]
+pub enum Grade {
+    NoEdge,
+    OneEdge,
+    Leader,
 }
 
-pub fn leads(grades: &[u32], n: usize) -> bool
+impl Grade {
+    // The grade after one edge more.
+    fn raised(self) -> Grade
+        ensures { result ≡ raised self }
+    {
+        match self {
+            Grade::NoEdge => Grade::OneEdge,
+            Grade::OneEdge | Grade::Leader => Grade::Leader,
+        }
+    }
+}
+
+// The grade of a node.
+fn grade_at(grades: &[Grade], n: usize) -> Grade
+    ensures { result ≡ get_or grades.now n Grade.NoEdge }
+{
+    grades.get(n).copied().unwrap_or(Grade::NoEdge)
+}
+
+pub fn leads(grades: &[Grade], n: usize) -> bool
     ensures { result ≡ leads grades.now n }
 {
-    words::word(grades, n) == 2
-}
-
-fn higher(grade: u32) -> u32
-    ensures { result ≡ higher grade }
-{
-    if grade == 0 { 1 } else { 2 }
+    grade_at(grades, n) == Grade::Leader
 }
 
 // The edges of node m: a target of a branch is a leader, and so is what a second edge enters.
-fn grade(grades: &mut [u32], table: &[u32], m: usize)
+fn enter(grades: &mut [Grade], table: &[u32], m: usize)
     ensures { grades.new ≡ graded (node_at table.now m) grades.old }
 {
     match graph::targets(table, m) {
         Successors::None => {}
         Successors::One(next) => {
-            let raised = higher(words::word(grades, next));
-            writing::store(grades, next, raised);
+            let raised = grade_at(grades, next).raised();
+            words::store(grades, next, raised);
         }
         Successors::Two(then, other) => {
-            writing::store(grades, then, 2);
-            writing::store(grades, other, 2);
+            words::store(grades, then, Grade::Leader);
+            words::store(grades, other, Grade::Leader);
         }
     }
 }
 
 // The grades of a source's nodes; the entry is a leader from the start.
-pub fn grades(table: &[u32], nodes: usize, entry: usize) -> [u32; 256]
-    requires { nodes ≤ 256 }
-    ensures { result ≡ grades_below (node_at table.now) (set zeros entry 2) nodes }
+#[tactic(auto, unfolding(crate::specs::Passes::ungraded))]
+pub fn grades(source: &Accepted) -> [Grade; 256]
+    ensures { result ≡ grades_below (node_at source.now.table.now) (set ungraded source.now.header.entry Grade.Leader) source.now.header.nodes }
 {
-    let mut grades = zeros();
-    writing::store(&mut grades, entry, 2);
-    let mut m = 0;
-    while m < nodes {
-        grade(&mut grades, table, m);
-        m += 1;
+    let mut grades = [Grade::NoEdge; 256];
+    words::store(&mut grades, source.header.entry, Grade::Leader);
+    for m in 0..source.header.nodes {
+        enter(&mut grades, source.table, m);
     }
     grades
 }

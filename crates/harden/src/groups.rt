@@ -1,65 +1,72 @@
-// The groups of extra nodes, e the first of each.
+// The groups of extra nodes, one a source node.
 ghost use Rattle.std.specs.Prelude.{◌+◌, ◌<◌, ◌≡◌};
-ghost use Rattle.graph.specs.Nodes.{node_at};
-ghost use Rattle.harden.specs.Hardened.{crossing_group};
-ghost use Rattle.harden.specs.Passes.{put_rows, signed, retest, branching};
+ghost use Rattle.harden.specs.Hardened.{group_at, group_from};
+ghost use Rattle.harden.specs.Passes.{put_rows, source_in, arrival, crossing_to, branching};
 
+use super::blocks::Blocks;
 use super::writing;
+use graph::Successors;
 
-// What a branch decided, noted in RTS, and its test once more.
-fn retest(
-    out: &mut [u32],
-    registers: usize,
-    e: usize,
-    table: &[u32],
-    signatures: &[u32],
-    n: usize,
-    t: usize,
-    f: usize,
-)
-    requires { (registers < 64) × ((e < 4000) × (n < 4096)) }
-    ensures { out.new ≡ put_rows out.old e (retest registers e (signed signatures.now) n (node_at table.now n) t f) }
-{
-    let s = words::word(signatures, n);
-    writing::prepare(out, registers, e, s, words::word(signatures, t), e + 2);
-    writing::prepare(out, registers, e + 1, s, words::word(signatures, f), e + 2);
-    writing::redirect(out, e + 2, table, n, e as u32 + 3, e as u32 + 5);
-}
+impl Blocks<'_> {
+    // The update at e and the check after it, of an edge to the target.
+    fn arrive(&self, out: &mut [u32], e: u32, target: usize)
+        requires inside { target < self.now.source.header.nodes }
+        requires small { e < 4000 }
+        ensures { out.new ≡ put_rows out.old e (arrival (source_in self.now.source) e target) }
+    {
+        writing::put_row(out, e, self.source.update(e + 1));
+        writing::put_row(
+            out,
+            e + 1,
+            self.source.check(self.sign(target), target as u32),
+        );
+    }
 
-// The seven extra nodes of a branch.
-pub fn branch_group(
-    out: &mut [u32],
-    registers: usize,
-    catch: usize,
-    e: usize,
-    table: &[u32],
-    signatures: &[u32],
-    n: usize,
-    t: usize,
-    f: usize,
-)
-    requires { (registers < 64) × ((catch < 4096) × ((e < 3900) × ((n < 4096) × ((t < 4096) × (f < 4096))))) }
-    ensures { out.new ≡ put_rows out.old e (branching registers catch e (signed signatures.now) n (node_at table.now n) t f) }
-{
-    retest(out, registers, e, table, signatures, n, t, f);
-    writing::arrive(out, registers, catch, e + 3, words::word(signatures, t), t);
-    writing::arrive(out, registers, catch, e + 5, words::word(signatures, f), f);
-}
+    // The three extra nodes of an edge that crosses to the leader l.
+    fn crossing_group(&self, out: &mut [u32], n: usize, l: usize)
+        requires from { n < self.now.source.header.nodes }
+        requires to { l < self.now.source.header.nodes }
+        ensures { let s = source_in self.now.source in let e = group_at s n in out.new ≡ put_rows out.old e (crossing_to s e n l) }
+    {
+        let e = self.start(n);
+        writing::put_row(
+            out,
+            e,
+            self.source.prepare(self.sign(n), self.sign(l), e + 1),
+        );
+        self.arrive(out, e + 1, l);
+    }
 
-// The three extra nodes of an edge that crosses to the leader l.
-pub fn crossing_group(
-    out: &mut [u32],
-    registers: usize,
-    catch: usize,
-    e: usize,
-    signatures: &[u32],
-    n: usize,
-    l: usize,
-)
-    requires { (registers < 64) × ((catch < 4096) × ((e < 3900) × (l < 4096))) }
-    ensures { out.new ≡ put_rows out.old e (crossing_group registers catch e (signed signatures.now n) l (signed signatures.now l)) }
-{
-    let sl = words::word(signatures, l);
-    writing::prepare(out, registers, e, words::word(signatures, n), sl, e + 1);
-    writing::arrive(out, registers, catch, e + 1, sl, l);
+    // The seven extra nodes of a branch: what it decided noted in RTS, its test once more, then the checks.
+    fn branch_group(&self, out: &mut [u32], n: usize, t: usize, f: usize)
+        requires from { n < self.now.source.header.nodes }
+        requires then { t < self.now.source.header.nodes }
+        requires other { f < self.now.source.header.nodes }
+        ensures { let s = source_in self.now.source in let e = group_at s n in out.new ≡ put_rows out.old e (branching s e n t f) }
+    {
+        let e = self.start(n);
+        let s = self.sign(n);
+        writing::put_row(out, e, self.source.prepare(s, self.sign(t), e + 2));
+        writing::put_row(out, e + 1, self.source.prepare(s, self.sign(f), e + 2));
+        writing::put_row(out, e + 2, self.source.redirected(n, e + 3, e + 5));
+        self.arrive(out, e + 3, t);
+        self.arrive(out, e + 5, f);
+    }
+
+    // The group of a source node.
+    #[tactic(auto, using(crate::proofs::Writes::no_rows), unfolding(crate::specs::Hardened::crossing))]
+    pub(crate) fn group(&self, out: &mut [u32], n: usize)
+        requires { n < self.now.source.header.nodes }
+        ensures { let s = source_in self.now.source in let e = group_at s n in out.new ≡ put_rows out.old e (group_from s e n) }
+    {
+        match self.source.targets(n) {
+            Successors::None => {}
+            Successors::One(next) => {
+                if self.leads(next) {
+                    self.crossing_group(out, n, next);
+                }
+            }
+            Successors::Two(t, f) => self.branch_group(out, n, t, f),
+        }
+    }
 }

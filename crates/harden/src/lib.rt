@@ -2,43 +2,32 @@
 #![tactic(auto)]
 
 ghost use Rattle.std.specs.Prelude.{◌≡◌, length};
-ghost use Rattle.harden.specs.Hardened.{hardening_of, harden_answer, harden_output};
+ghost use Rattle.words.specs.Refusals.{answer_of};
+ghost use Rattle.harden.specs.Hardened.{harden_answer, harden_output};
 
-use graph::{Check, Header};
+mod accepted; // accepted.rt: a source that the checks accepted
+mod blocks; // blocks.rt: what the passes find of a source
+mod grading; // grading.rt: which nodes are leaders
+mod groups; // groups.rt: the groups of extra nodes
+mod signing; // signing.rt: the signature of each node's block
+mod whole; // whole.rt: the whole hardened table
+mod writing; // writing.rt: the six words of a row
 
-mod grading;
-mod groups;
-mod signing;
-mod whole;
-mod writing;
+use accepted::Accepted;
+use blocks::Blocks;
+use graph::Header;
+use words::Refusal;
 
-// What hardening answers: the hardened graph's R, N and entry, or the refusal's number and place.
-#[derive(Clone, Copy)]
-pub enum Hardening {
-    Hardened(Header),
-    Refused(u32, usize),
-}
-
-// Hardens a source graph: the table of the hardened graph goes over the first words of the output.
-pub fn harden(
-    registers: usize,
-    nodes: usize,
-    entry: usize,
-    table: &[u32],
-    out: &mut [u32],
-) -> Hardening
-    ensures { (hardening_of result ≡ harden_answer registers nodes entry table.now (length out.old)) × (out.new ≡ harden_output registers nodes entry table.now out.old) }
+// Hardens a source graph: the table of the hardened graph goes over the first words of the output. Its R, N and entry.
+#[tactic(auto, unfolding(crate::specs::Hardened::harden_answer, crate::specs::Hardened::harden_output, crate::specs::Hardened::source_of))]
+pub fn harden(source: Header, table: &[u32], out: &mut [u32]) -> Result<Header, Refusal>
+    ensures answer { answer_of result ≡ harden_answer source.registers source.nodes source.entry table.now (length out.old) }
+    ensures out_after { out.new ≡ harden_output source.registers source.nodes source.entry table.now out.old }
 {
-    match graph::check_source(registers, nodes, entry, table) {
-        Check::Refused(number, place) => Hardening::Refused(number, place),
-        Check::Accepted => whole::harden(
-            Header {
-                registers,
-                nodes,
-                entry,
-            },
-            table,
-            out,
-        ),
-    }
+    graph::check_source(source, table)?;
+    let accepted = Accepted {
+        header: source,
+        table,
+    };
+    Blocks::of(accepted).harden(out)
 }

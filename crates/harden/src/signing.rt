@@ -1,54 +1,52 @@
-// The signature of each node's block: back from the node to its leader, whose rank the plan turns into a word.
-ghost use Rattle.std.specs.Prelude.{◌+◌, ◌<◌, ◌≤◌, ◌≡◌, cond};
+// The signature of each node's block: back from the node to its leader, whose rank the plan turns into a word. Source and grades are two
+// arguments here, since `Blocks`, which holds them both, is made of what these passes answer.
+ghost use Rattle.std.specs.Prelude.{◌+◌, ◌≤◌, ◌≡◌, cond};
 ghost use Rattle.graph.specs.Nodes.{node_at};
 ghost use Rattle.harden.specs.Blocks.{one_plus_rank};
 ghost use Rattle.harden.specs.Passes.{zeros, leads, preceded, preceders_below, head_by, filled, as_leader, as_block, block_signatures};
 
-use super::{grading, writing};
+use super::accepted::Accepted;
+use super::grading;
+use super::grading::Grade;
 use graph::Successors;
 
 // The edges of node m, noted at their targets.
-fn precede(preceders: &mut [u32], table: &[u32], m: usize)
-    requires { m < 256 }
+fn precede(preceders: &mut [u32], table: &[u32], m: u32)
     ensures { preceders.new ≡ preceded m (node_at table.now m) preceders.old }
 {
-    let word = m as u32;
-    match graph::targets(table, m) {
+    match graph::targets(table, m as usize) {
         Successors::None => {}
-        Successors::One(next) => writing::store(preceders, next, word),
+        Successors::One(next) => words::store(preceders, next, m),
         Successors::Two(then, other) => {
-            writing::store(preceders, then, word);
-            writing::store(preceders, other, word);
+            words::store(preceders, then, m);
+            words::store(preceders, other, m);
         }
     }
 }
 
 // The last node with an edge to each node.
-fn preceders(table: &[u32], nodes: usize) -> [u32; 256]
-    requires { nodes ≤ 256 }
-    ensures { result ≡ preceders_below (node_at table.now) zeros nodes }
+#[tactic(auto, unfolding(crate::specs::Passes::zeros))]
+fn preceders(source: &Accepted) -> [u32; 256]
+    ensures { result ≡ preceders_below (node_at source.now.table.now) zeros source.now.header.nodes }
 {
-    let mut preceders = grading::zeros();
-    let mut m = 0;
-    while m < nodes {
-        precede(&mut preceders, table, m);
-        m += 1;
+    let mut preceders = words::zeros::<256>();
+    for m in 0..source.header.nodes as u32 {
+        precede(&mut preceders, source.table, m);
     }
     preceders
 }
 
 // From a node back to a leader, at most so many steps.
-fn head(grades: &[u32], preceders: &[u32], steps: usize, n: usize) -> usize
+#[tactic(auto, using(crate::proofs::Passes::head_step))]
+fn head(grades: &[Grade], preceders: &[u32], steps: usize, n: usize) -> usize
     ensures { result ≡ head_by grades.now preceders.now steps n }
 {
-    let mut left = steps;
     let mut at = n;
-    while 0 < left {
+    for _ in 0..steps {
         if grading::leads(grades, at) {
             return at;
         }
         at = words::word(preceders, at) as usize;
-        left -= 1;
     }
     at
 }
@@ -61,54 +59,39 @@ fn plan(rank: usize) -> u32
     1 + rank as u32
 }
 
-// One more where a leader was passed.
-fn next_rank(grades: &[u32], n: usize, rank: usize) -> usize
-    requires { rank ≤ 256 }
-    ensures { result ≡ rank + cond (leads grades.now n) 1 0 }
-{
-    if grading::leads(grades, n) {
-        rank + 1
-    } else {
-        rank
-    }
-}
-
 // The signature that each node has as a leader.
-fn leading(grades: &[u32], nodes: usize) -> [u32; 256]
-    requires { nodes ≤ 256 }
-    ensures { result ≡ filled (as_leader one_plus_rank grades.now) zeros nodes }
+#[tactic(auto, using(crate::proofs::Passes::leaders_bound), unfolding(crate::specs::Passes::zeros))]
+fn leading(source: &Accepted, grades: &[Grade]) -> [u32; 256]
+    ensures { result ≡ filled (as_leader one_plus_rank grades.now) zeros source.now.header.nodes }
 {
-    let mut signatures = grading::zeros();
+    let mut signatures = words::zeros::<256>();
     let mut rank = 0;
-    let mut n = 0;
-    while n < nodes {
+    for n in 0..source.header.nodes {
         signatures[n] = plan(rank);
-        rank = next_rank(grades, n, rank);
-        n += 1;
+        rank += usize::from(grading::leads(grades, n));
     }
     signatures
 }
 
 // The signature of each node's block.
-fn signatures(grades: &[u32], preceders: &[u32], leading: &[u32], nodes: usize) -> [u32; 256]
-    requires { nodes ≤ 256 }
-    ensures { result ≡ filled (as_block grades.now preceders.now leading.now nodes) zeros nodes }
+#[tactic(auto, unfolding(crate::specs::Passes::zeros))]
+fn signatures(source: &Accepted, grades: &[Grade], preceders: &[u32], leading: &[u32]) -> [u32; 256]
+    ensures { result ≡ filled (as_block grades.now preceders.now leading.now source.now.header.nodes) zeros source.now.header.nodes }
 {
-    let mut signatures = grading::zeros();
-    let mut n = 0;
-    while n < nodes {
+    let nodes = source.header.nodes;
+    let mut signatures = words::zeros::<256>();
+    for n in 0..nodes {
         signatures[n] = words::word(leading, head(grades, preceders, nodes, n));
-        n += 1;
     }
     signatures
 }
 
 // The signatures of all blocks, from the grades.
-pub fn of_blocks(table: &[u32], grades: &[u32], nodes: usize) -> [u32; 256]
-    requires { nodes ≤ 256 }
-    ensures { result ≡ block_signatures one_plus_rank (node_at table.now) grades.now nodes }
+#[tactic(auto, unfolding(crate::specs::Passes::block_signatures))]
+pub fn of_blocks(source: &Accepted, grades: &[Grade]) -> [u32; 256]
+    ensures { result ≡ block_signatures one_plus_rank (node_at source.now.table.now) grades.now source.now.header.nodes }
 {
-    let preceders = preceders(table, nodes);
-    let leading = leading(grades, nodes);
-    signatures(grades, &preceders, &leading, nodes)
+    let preceders = preceders(source);
+    let leading = leading(source, grades);
+    signatures(source, grades, &preceders, &leading)
 }

@@ -2,13 +2,11 @@
 // read; a refusal's line goes to standard error.
 #![tactic(auto)]
 
-ghost use Rattle.std.specs.Prelude.{◌≤◌, ◌≡◌, IfOk, length};
+ghost use Rattle.std.specs.Prelude.{◌≤◌, ◌≡◌, length};
 ghost use Rattle.desk.specs.Programs.{size_of, print_of, file_program, text_bytes};
 
 use desk::Printed;
 use std::io;
-use std::io::Read;
-use std::rt::Stdin;
 
 // The whole file for the arguments and a file's bytes: a text of this size holds every one.
 fn file(cells: &[u8], bytes: &[u8], text: &mut [u8]) -> Printed
@@ -18,29 +16,14 @@ fn file(cells: &[u8], bytes: &[u8], text: &mut [u8]) -> Printed
     desk::file(cells, bytes, text)
 }
 
-// Reads standard input into the buffer until it is full or the input ends. Answers how many bytes it read.
-fn read_full(input: &mut Stdin, bytes: &mut [u8]) -> io::Result<usize>
-    ensures { IfOk result (λ size. size ≤ length bytes.new) }
-{
-    let mut size = 0;
-    while size < bytes.len() {
-        let more = input.read(&mut bytes[size..])?;
-        if more == 0 {
-            break;
-        }
-        size += more;
-    }
-    Ok(size)
-}
-
+// A `main` of its own: one for the three programs would only read and print, and could promise nothing.
 fn main(rt: HostRuntime) -> io::Result<()> {
     let mut cells = console::cell_space();
     let used = console::arguments(&rt, &mut cells);
     let mut input = console::file_space();
-    let size = read_full(&mut rt.stdin(), &mut input)?;
+    let size = console::read_full(&mut rt.stdin(), &mut input)?;
     let mut text = console::text_space();
-    let answer = file(&cells[..used], &input[..size], &mut text);
-    match answer {
+    match file(&cells[..used], &input[..size], &mut text) {
         Printed::Output(end) => rt.stdout().write_all(&text[..end]),
         Printed::Complaint(end) => rt.stderr().write_all(&text[..end]),
     }

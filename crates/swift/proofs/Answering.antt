@@ -24,16 +24,15 @@ use Rattle.harden.specs.Hardened.{Source, hardened_table}
 use Rattle.harden.specs.Edges.{Distinct}
 use Rattle.harden.proofs.Runnable.{hardened-runnable}
 use Rattle.bench.specs.Steps.{Machine, Setting, Status, going, ended, Progress, at, start, step, stopped, execute, unless}
-use Rattle.bench.specs.Runs.{settled, next_of, next, after, run_of, state_of, answer_of, most_steps, run_answer, run_events}
+use Rattle.bench.specs.Runs.{settled, next_of, next, after, run_of, state_of, most_steps, run_answer, run_events}
 use Rattle.bench.specs.declared.Fault.{Fault}
 use Rattle.bench.specs.declared.Fault.TheVariants.{Undisturbed, Inverted}
 use Rattle.bench.specs.declared.Outcome.{Outcome}
 use Rattle.bench.specs.declared.Outcome.TheVariants.{Returned, Caught, Spent, Full}
-use Rattle.bench.specs.declared.RunAnswer.{RunAnswer}
 use Rattle.bench.specs.declared.State.{State}
-use Rattle.bench.specs.declared.Verdict.TheVariants.{Ran}
 use Rattle.bench.proofs.Rounds.{after_more}
-use Rattle.swift.specs.Demand.{Subject, source_in, hardened_header, Run, run_on, run_source, run_hardened}
+use Rattle.swift.specs.Demand.Verdict.{Ran}
+use Rattle.swift.specs.Demand.{Report, report_of, Subject, source_in, hardened_header, Run, run_on, run_source, run_hardened}
 use Rattle.swift.specs.Demand.{crossings, steps_beside, stopping, SameTraffic, Alike, Executes, soon, CaughtSoon, Answered, Demand3}
 use Rattle.swift.specs.Trials.{Trial, plain, hardened, hardened_graph, source_run, hardened_run}
 use Rattle.swift.specs.Trials.{crossed, hardened_steps, beside, AtBranch, CaughtAfter, Decided}
@@ -94,7 +93,7 @@ module _ (s : Setting) (fault : Fault) where
 
 -- a run after so many rounds, as it is answered and written
 abbrev shown : Subject → Progress → Run
-shown j p = record { answer = answer_of (given p); events = over p.machine.events j.events }
+shown j p = record { answer = report_of (given p); events = over p.machine.events j.events }
 
 same-shown : (j : Subject) (p q : Progress) → p.machine.reads ≡ q.machine.reads → p.machine.events ≡ q.machine.events
     → SameTraffic (shown j p) (shown j q)
@@ -110,12 +109,12 @@ module _ (j : Subject) (h : Header) (words : List ℕ) (in_order : runnable_chec
   unfolding run_on run_events run_answer
   answer_within few = rw (in_order, le-leb budget most_steps few)
 
-  answer_past : most_steps < budget → (run_on j h words fault budget).answer ≡ answer_of (refused 12 0)
+  answer_past : most_steps < budget → (run_on j h words fault budget).answer ≡ report_of (refused 12 0)
   unfolding run_on run_answer
   answer_past many = rw (in_order, lt-leb budget most_steps many)
 
   -- a budget whose answer is not that refusal is none too large
-  not_past : (P : RunAnswer → Type 0) → (P (answer_of (refused 12 0)) → ⊥) → P (run_on j h words fault budget).answer → budget ≤ most_steps
+  not_past : (P : Report → Type 0) → (P (report_of (refused 12 0)) → ⊥) → P (run_on j h words fault budget).answer → budget ≤ most_steps
   not_past P never p = by (dec_lt most_steps budget)
     where
       by : Dec (most_steps < budget) → budget ≤ most_steps

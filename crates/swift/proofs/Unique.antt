@@ -1,32 +1,32 @@
 -- Document 01, "What the contracts must shut out": the contract of each public function leaves one answer, and one content of each
 -- buffer lent. Each theorem is of the checker's own statement of that contract, `CRATE.PATH.Reads.Post` over the signature
--- `CRATE_says.PATH.ended`. Where an answer is an enum, its meaning can be taken back, so two answers of one meaning are one.
+-- `CRATE_says.PATH.ended`. Where an answer is a `Result` or an enum, its meaning can be taken back, so two answers of one meaning are one.
 -- To add a public function: a theorem `unique_CRATE_PATH` (`.` becomes `_`) with its statement on that one line. A new crate goes among
 -- those that `swift` uses in crates.txt, and has its two lines `use Rattle.CRATE.. as ..`. tests/contracts looks for all of them.
 -- Assumes nothing.
 use Prim.Native.Nat.{ℕ}
 use mathlib.Core.Path.{◌≡◌, refl, sym, ap, ◌∙◌}
 use mathlib.Core.List.{List, [], ◌∷◌}
-use mathlib.Core.Option.{Option, none, some}
 use native.Mathlib.Omega.{arith}
+use denote.RattleType.{RattleType}
+use denote.Param.{value_of}
+use denote.Param.Laws.{Laws, IsCopy}
+use mir.Val.{Fits}
+use mir.Syntax.{w64, Dict}
+use lib.Dec.{eqb}
+use borrow.Author.Tests.{ne_eqb}
+use mathlib.Core.Bool.{cond}
+use Rattle.std.specs.Prelude.{Result, Ok, Err}
+use Rattle.std.specs.declared.clone.Clone.{Ghosts}
 use Rattle.words.specs.Answer.{Answer, given, refused}
-use Rattle.words.specs.Number.{reading_of}
-use Rattle.words.specs.declared.Number.{Number}
+use Rattle.words.specs.Refusals.{number_of, answer_of}
+use Rattle.words.specs.declared.refusals.Reason.{Reason}
+use Rattle.words.specs.declared.refusals.Refusal.{Refusal}
+use Rattle.words.proofs.Reasons.{reason_of, reason_back, reason_some}
+use Rattle.graph.specs.Kinds.{number_in}
 use Rattle.graph.specs.Successors.{targets_of}
-use Rattle.graph.specs.Checks.{check_of}
-use Rattle.graph.specs.declared.Check.{Check}
 use Rattle.graph.specs.declared.Successors.{Successors}
-use Rattle.file.specs.Reading.{read_of}
-use Rattle.file.specs.Writing.{writing_of}
-use Rattle.file.specs.declared.Verdict.{Verdict}
-use Rattle.file.specs.declared.Writing.{Writing}
-use Rattle.harden.specs.Hardened.{hardening_of}
-use Rattle.harden.specs.declared.Hardening.{Hardening}
-use Rattle.bench.specs.Campaigns.{campaign_of}
-use Rattle.bench.specs.declared.CampaignAnswer.{CampaignAnswer}
-use Rattle.text.specs.Decimals.{decimal_of}
 use Rattle.text.specs.Places.{Wrote}
-use Rattle.text.specs.declared.Decimal.{Decimal}
 use Rattle.desk.specs.Programs.{Print, Shown, printed, complained}
 use Rattle.desk.specs.declared.Printed.{Printed}
 use Rattle.words.specs.contracts as words_says
@@ -66,52 +66,31 @@ taken_back f back undone r s e = sym (undone r) ∙ ap back e ∙ undone s
 meant : {A B : Type 0} {f : A → B} {y : B} {r s : A} → Injective f → f r ≡ y → f s ≡ y → r ≡ s
 meant {r} {s} injective p q = injective r s (same p q)
 
--- the case of an enum for a value, or for a refusal
-abbrev case_of : {A B : Type 0} → (A → B) → (ℕ → ℕ → B) → Answer A → B
-case_of value refusal (given a) = value a
-case_of value refusal (refused number place) = refusal number place
+-- the result for a value, or for a refusal's number and place
+abbrev result_for : {A : Type 0} → Answer A → Result A Refusal
+result_for (given a) = Ok a
+result_for (refused number place) = Err (record { reason = reason_of number; place = place })
 
-pub reading_of_injective : Injective reading_of
-reading_of_injective = taken_back reading_of (case_of (λ r. Number.Value r.value r.next) Number.Refused) undone
+pub answer_of_injective : {A : Type 0} → Injective (answer_of {A = A})
+answer_of_injective {A} = taken_back answer_of result_for undone
   where
-    undone : (r : Number) → case_of (λ r. Number.Value r.value r.next) Number.Refused (reading_of r) ≡ r
-    undone (Number.Value v next) = refl
-    undone (Number.Refused number place) = refl
+    undone : (r : Result A Refusal) → result_for (answer_of r) ≡ r
+    undone (Ok a) = refl
+    undone (Err r) = ap (λ (reason : Reason). Err (record { reason = reason; place = r.place })) (reason_back r.reason)
 
-pub check_of_injective : Injective check_of
-check_of_injective = taken_back check_of (case_of (λ _. Check.Accepted) Check.Refused) undone
-  where
-    undone : (r : Check) → case_of (λ _. Check.Accepted) Check.Refused (check_of r) ≡ r
-    undone Check.Accepted = refl
-    undone (Check.Refused number place) = refl
+-- the result for a reason's number, or for 0
+abbrev fault_for : ℕ → Result Unit Reason
+fault_for number = cond (eqb number 0) (Ok tt) (Err (reason_of number))
 
-pub read_of_injective : Injective read_of
-read_of_injective = taken_back read_of (case_of Verdict.Graph Verdict.Refused) undone
+pub number_in_injective : Injective number_in
+number_in_injective = taken_back number_in fault_for undone
   where
-    undone : (r : Verdict) → case_of Verdict.Graph Verdict.Refused (read_of r) ≡ r
-    undone (Verdict.Graph header) = refl
-    undone (Verdict.Refused number place) = refl
-
-pub writing_of_injective : Injective writing_of
-writing_of_injective = taken_back writing_of (case_of Writing.Written Writing.Refused) undone
-  where
-    undone : (r : Writing) → case_of Writing.Written Writing.Refused (writing_of r) ≡ r
-    undone (Writing.Written size) = refl
-    undone (Writing.Refused number place) = refl
-
-pub hardening_of_injective : Injective hardening_of
-hardening_of_injective = taken_back hardening_of (case_of Hardening.Hardened Hardening.Refused) undone
-  where
-    undone : (r : Hardening) → case_of Hardening.Hardened Hardening.Refused (hardening_of r) ≡ r
-    undone (Hardening.Hardened header) = refl
-    undone (Hardening.Refused number place) = refl
-
-pub campaign_of_injective : Injective campaign_of
-campaign_of_injective = taken_back campaign_of (case_of CampaignAnswer.Scored CampaignAnswer.Refused) undone
-  where
-    undone : (r : CampaignAnswer) → case_of CampaignAnswer.Scored CampaignAnswer.Refused (campaign_of r) ≡ r
-    undone (CampaignAnswer.Scored score) = refl
-    undone (CampaignAnswer.Refused number place) = refl
+    undone : (r : Result Unit Reason) → fault_for (number_in r) ≡ r
+    undone (Ok _) = refl
+    undone (Err reason) =
+        let some = reason_some reason in
+        let other : (number_of reason ≡ 0 → ⊥) = omega arith in
+        rw (ne_eqb (number_of reason) 0 other) (ap Err (reason_back reason))
 
 -- the case for a list of targets
 abbrev cases_for : List ℕ → Successors
@@ -126,18 +105,6 @@ targets_of_injective = taken_back targets_of cases_for undone
     undone Successors.None = refl
     undone (Successors.One next) = refl
     undone (Successors.Two then else) = refl
-
--- the case for a number, or for none
-abbrev case_for : Option ℕ → Decimal
-case_for (some n) = Decimal.Value n
-case_for none = Decimal.Other
-
-pub decimal_of_injective : Injective decimal_of
-decimal_of_injective = taken_back decimal_of case_for undone
-  where
-    undone : (r : Decimal) → case_for (decimal_of r) ≡ r
-    undone (Decimal.Value n) = refl
-    undone Decimal.Other = refl
 
 -- ---- answer and buffers, one after the other
 
@@ -162,8 +129,20 @@ shown_one (complained p) (complained q) = let (sizes, texts) = wrote_one p q in 
 pub unique_words_word : OneAnswer words_says.word.ended words.word.Reads.Post
 unique_words_word κs a o u p q = both (same p q) refl
 
+pub unique_words_store : (T : RattleType) (laws : Laws T) (copies : IsCopy T) (clones : Ghosts T.Denot) (dict : Dict) → OneAnswer (words_says.store.ended T clones dict) (words.store.Reads.Post T laws copies clones dict)
+unique_words_store T laws copies clones dict κs a o u p q = both refl (both (same p q) refl)
+
+pub unique_words_zeros : (N : RattleType) (fits : Fits w64 (value_of N)) → OneAnswer (words_says.zeros.ended N) (words.zeros.Reads.Post (value_of N) fits)
+unique_words_zeros N fits κs a o u p q = both (same p q) refl
+
+pub unique_words_refusals_Reason_number : OneAnswer words_says.refusals.Reason.number.ended words.refusals.Reason.number.Reads.Post
+unique_words_refusals_Reason_number κs a o u p q = both (same p q) refl
+
+pub unique_words_refusals_Reason_at : OneAnswer words_says.refusals.Reason.at.ended words.refusals.Reason.at.Reads.Post
+unique_words_refusals_Reason_at κs a o u p q = both (same p q) refl
+
 pub unique_words_number_at : OneAnswer words_says.number_at.ended words.number_at.Reads.Post
-unique_words_number_at κs a o u p q = both (meant reading_of_injective p q) refl
+unique_words_number_at κs a o u p q = both (meant answer_of_injective p q) refl
 
 pub unique_words_put_number : OneAnswer words_says.put_number.ended words.put_number.Reads.Post
 unique_words_put_number κs a o u p q = both (same p.0 q.0) (both (same p.1 q.1) refl)
@@ -180,61 +159,58 @@ pub unique_graph_role_at : OneAnswer graph_says.role_at.ended graph.role_at.Read
 unique_graph_role_at κs a o u p q = both (same p q) refl
 
 pub unique_graph_fault : OneAnswer graph_says.fault.ended graph.fault.Reads.Post
-unique_graph_fault κs a o u p q = both (same p q) refl
+unique_graph_fault κs a o u p q = both (meant number_in_injective p q) refl
 
 pub unique_graph_targets : OneAnswer graph_says.targets.ended graph.targets.Reads.Post
 unique_graph_targets κs a o u p q = both (meant targets_of_injective p q) refl
 
 pub unique_graph_check_runnable : OneAnswer graph_says.check_runnable.ended graph.check_runnable.Reads.Post
-unique_graph_check_runnable κs a o u p q = both (meant check_of_injective p q) refl
+unique_graph_check_runnable κs a o u p q = both (meant answer_of_injective p q) refl
 
 pub unique_graph_check_source : OneAnswer graph_says.check_source.ended graph.check_source.Reads.Post
-unique_graph_check_source κs a o u p q = both (meant check_of_injective p q) refl
+unique_graph_check_source κs a o u p q = both (meant answer_of_injective p q) refl
 
 -- ---- file
 
 pub unique_file_read : OneAnswer file_says.read.ended file.read.Reads.Post
-unique_file_read κs a o u p q = both (meant read_of_injective p.0 q.0) (past (both (same p.1 q.1) refl))
+unique_file_read κs a o u p q = both (meant answer_of_injective p.0 q.0) (past (both (same p.1 q.1) refl))
 
 pub unique_file_write : OneAnswer file_says.write.ended file.write.Reads.Post
-unique_file_write κs a o u p q =
-    both (meant writing_of_injective p.0 q.0) (past (past (past (past (both (same p.1 q.1) refl)))))
+unique_file_write κs a o u p q = both (meant answer_of_injective p.0 q.0) (past (past (both (same p.1 q.1) refl)))
 
 -- ---- harden
 
 pub unique_harden_harden : OneAnswer harden_says.harden.ended harden.harden.Reads.Post
-unique_harden_harden κs a o u p q =
-    both (meant hardening_of_injective p.0 q.0) (past (past (past (past (both (same p.1 q.1) refl)))))
+unique_harden_harden κs a o u p q = both (meant answer_of_injective p.0 q.0) (past (past (both (same p.1 q.1) refl)))
 
 -- ---- bench
 
 pub unique_bench_run : OneAnswer bench_says.run.ended bench.run.Reads.Post
-unique_bench_run κs a o u p q = both (same p.0 q.0) (past (past (past (past (past (both (same p.1 q.1) refl))))))
+unique_bench_run κs a o u p q = both (meant answer_of_injective p.0 q.0) (past (past (past (both (same p.1 q.1) refl))))
 
 pub unique_bench_campaign : OneAnswer bench_says.campaign.ended bench.campaign.Reads.Post
 unique_bench_campaign κs a o u p q =
-    both (meant campaign_of_injective p.0 q.0)
-    (past (past (past (past (past (both (same p.1.0 q.1.0) (both (same p.1.1 q.1.1) refl)))))))
+    both (meant answer_of_injective p.0 q.0) (past (past (past (both (same p.1.0 q.1.0) (both (same p.1.1 q.1.1) refl)))))
 
 -- ---- text
 
-pub unique_text_byte : OneAnswer text_says.byte.ended text.byte.Reads.Post
-unique_text_byte κs a o u p q = let (places, texts) = wrote_one p q in both places (both texts refl)
+pub unique_text_Text_byte : OneAnswer text_says.Text.byte.ended text.Text.byte.Reads.Post
+unique_text_Text_byte κs a o u p q = both refl (both (same p q) refl)
 
-pub unique_text_piece : OneAnswer text_says.piece.ended text.piece.Reads.Post
-unique_text_piece κs a o u p q = let (places, texts) = wrote_one p q in both places (both texts refl)
+pub unique_text_Text_piece : OneAnswer text_says.Text.piece.ended text.Text.piece.Reads.Post
+unique_text_Text_piece κs a o u p q = both refl (both (same p q) refl)
 
-pub unique_text_number : OneAnswer text_says.number.ended text.number.Reads.Post
-unique_text_number κs a o u p q = let (places, texts) = wrote_one p q in both places (both texts refl)
+pub unique_text_Text_number : OneAnswer text_says.Text.number.ended text.Text.number.Reads.Post
+unique_text_Text_number κs a o u p q = both refl (both (same p q) refl)
 
-pub unique_text_after_space : OneAnswer text_says.after_space.ended text.after_space.Reads.Post
-unique_text_after_space κs a o u p q = let (places, texts) = wrote_one p q in both places (both texts refl)
+pub unique_text_Text_after_space : OneAnswer text_says.Text.after_space.ended text.Text.after_space.Reads.Post
+unique_text_Text_after_space κs a o u p q = both refl (both (same p q) refl)
 
-pub unique_text_spaced : OneAnswer text_says.spaced.ended text.spaced.Reads.Post
-unique_text_spaced κs a o u p q = let (places, texts) = wrote_one p q in both places (both texts refl)
+pub unique_text_Text_spaced : OneAnswer text_says.Text.spaced.ended text.Text.spaced.Reads.Post
+unique_text_Text_spaced κs a o u p q = both refl (both (same p q) refl)
 
 pub unique_text_value : OneAnswer text_says.value.ended text.value.Reads.Post
-unique_text_value κs a o u p q = both (meant decimal_of_injective p q) refl
+unique_text_value κs a o u p q = both (same p q) refl
 
 -- ---- desk
 
@@ -271,6 +247,18 @@ open_console_arguments κs =
       omega arith,
       omega arith,
       λ e. omega (arith, e),
+    )
+
+-- it also says what there is to be read: of one byte lent, none and one can be read
+pub open_console_read_full : TwoAnswers console_says.read_full.ended console.read_full.Reads.Post
+open_console_read_full κs =
+    let lent : List ℕ = 0 ∷ [] in (
+      (record { ref_ptr = (0, 0); ghost_name = 0; now = record { seal = tt } }, (record { ref_ptr = (0, 0); ghost_name = 1; now = lent }, tt)),
+      (Ok 0, (record { seal = tt }, (lent, tt))),
+      (Ok 1, (record { seal = tt }, (lent, tt))),
+      omega arith,
+      omega arith,
+      λ e. cc,
     )
 
 -- ---- yardstick

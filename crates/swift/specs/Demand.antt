@@ -2,19 +2,19 @@
 -- the event buffer, budgets included. proofs/Promised.antt proves it of every accepted source; docs/DEMAND3.md goes through it.
 -- Assumes nothing.
 use Rattle.std.specs.Prelude.{ℕ, zero, suc, ◌+◌, ◌*◌, ◌≤◌, ◌<◌, ◌≡◌, ◌⊎◌, cond, ◌&&◌, List, length, take, ltb}
-use Rattle.words.specs.Answer.{Answer, given}
+use Rattle.words.specs.Answer.{Answer, given, refused}
 use Rattle.graph.specs.Nodes.{branch, Operand, node_at}
 use Rattle.graph.specs.declared.Header.{Header}
 use Rattle.harden.specs.Blocks.{Plan, one_plus_rank}
 use Rattle.harden.specs.Hardened.{Source, crossing, group_at, hardened_count, harden_answer, harden_output}
-use Rattle.bench.specs.Runs.{answer_of, most_steps, run_answer, run_events}
+use Rattle.bench.specs.Steps.{Progress, start}
+use Rattle.bench.specs.Runs.{answered, most_steps, run_answer, run_events, state_of}
 use Rattle.bench.specs.declared.Fault.{Fault}
 use Rattle.bench.specs.declared.Fault.TheVariants.{Undisturbed, Inverted}
 use Rattle.bench.specs.declared.Outcome.{Outcome}
 use Rattle.bench.specs.declared.Outcome.TheVariants.{Returned, Caught, Spent, Full}
 use Rattle.bench.specs.declared.RunAnswer.{RunAnswer}
 use Rattle.bench.specs.declared.State.{State}
-use Rattle.bench.specs.declared.Verdict.TheVariants.{Ran}
 
 -- ---- what is run
 
@@ -50,15 +50,33 @@ source_in j =
 abbrev pub hardened_header : Subject → Header
 hardened_header j = record { registers = j.header.registers + 2; nodes = hardened_count (source_in j); entry = j.header.nodes }
 
+-- how a run ended, or the refusal's number and place
+pub data Verdict : Type 0 where
+  Ran : Outcome → Verdict
+  Refused : ℕ → ℕ → Verdict
+
+-- what `run` answers; of a refused run, which has no state and no events, zeros stand for both
+pub record Report : Type 0 where
+  pub verdict : Verdict
+  pub state : State
+  pub events : ℕ
+
+abbrev pub reported : Answer RunAnswer → Report
+reported (given a) = record { verdict = Ran a.outcome; state = a.state; events = a.events }
+reported (refused number place) = record { verdict = Refused number place; state = state_of (start 0); events = 0 }
+
+abbrev pub report_of : Answer Progress → Report
+report_of progress = reported (answered progress)
+
 -- a run: what `run` answers, and what the event buffer holds then
 pub record Run : Type 0 where
-  pub answer : RunAnswer
+  pub answer : Report
   pub events : List ℕ
 
 -- the run of a graph in a table, from what `run` promises
 unfoldable pub run_on : Subject → Header → List ℕ → Fault → ℕ → Run
 run_on j h words fault budget = record {
-  answer = answer_of (run_answer h.registers h.nodes h.entry words j.inputs (length j.events) budget fault);
+  answer = report_of (run_answer h.registers h.nodes h.entry words j.inputs (length j.events) budget fault);
   events = run_events h.registers h.nodes h.entry words j.inputs j.events budget fault;
 }
 

@@ -1,11 +1,8 @@
 -- How long numbers are as text: at most twenty digits, and ten of a 32-bit word.
 -- Assumes nothing.
-use Prim.Native.Nat.{ℕ, zero, suc, ◌+◌, ◌*◌, ◌/◌, ◌%◌, ◌^◌, ◌≤◌, ◌<◌}
-use native.Mathlib.Nat.{mul-suc, pow-suc}
+use Rattle.std.proofs.Common.{ℕ, zero, suc, ◌+◌, ◌*◌, ◌/◌, ◌%◌, ◌^◌, ◌≤◌, ◌<◌, List, [], ◌∷◌, length, length-append, inr, arith}
+use Rattle.std.proofs.Math.Nat.{mul-suc, pow-suc}
 use native.Mathlib.Decide.{dec_lt}
-use native.Mathlib.Omega.{arith}
-use mathlib.Core.List.{List, [], ◌∷◌}
-use lib.ListN.{length, length-append}
 use Rattle.words.proofs.AllWords.{AllWords}
 use Rattle.text.specs.Decimals.{digits_in, decimal, spaced}
 use Rattle.text.proofs.Decimals.{last_only, front-first}
@@ -15,7 +12,7 @@ digits_next : (more n most : ℕ) → (10 ≤ n → length (digits_in more (n / 
 digits_next more n most front = by (dec_lt n 10)
   where
     by : Dec (n < 10) → length (digits_in (suc more) n) ≤ suc most
-    by (yes h) = rw (last_only (suc more) n h) (omega arith)
+    by (yes h) = rw (last_only (suc more) n (inr h)) (omega arith)
     by (no h) =
         let ten : 10 ≤ n = omega arith in
         rw (front-first more n ten) (omega (arith, front ten, length-append (digits_in more (n / 10)) ((48 + n % 10) ∷ [])))

@@ -2,6 +2,7 @@
 -- Assumes nothing.
 use Rattle.std.specs.Prelude.{ℕ, ◌+◌, ◌≡◌, cond, List, length, leb}
 use Rattle.words.specs.Buffer.{put}
+use Rattle.text.specs.declared.Text.{Text}
 
 -- the place after a text of this length, or the buffer's end where it does not fit
 unfoldable pub place_after : ℕ → ℕ → ℕ → ℕ
@@ -11,3 +12,7 @@ place_after room at size = cond (leb (at + size) room) (at + size) room
 pub record Wrote (before : List ℕ) (at : ℕ) (text : List ℕ) (after : List ℕ) (place : ℕ) : Type 0 where
   pub place_is : place ≡ place_after (length before) at (length text)
   pub buffer_is : after ≡ put before at text
+
+-- the same of a buffer and a place that go together: the text in the same buffer, and the place after it
+unfoldable pub appended : Text → List ℕ → Text
+appended t text = record { out = record t.out { now = put t.out.now t.at text }; at = place_after (length t.out.now) t.at (length text) }

@@ -2,124 +2,96 @@
 #![tactic(auto)]
 
 ghost use Rattle.std.specs.Prelude.{◌≡◌, [], ◌∷◌};
-ghost use Rattle.text.specs.Decimals.{decimal, digits_in, decimal_of, value_of};
+ghost use Rattle.text.specs.Decimals.{decimal, digits_in, value_of};
 ghost use Rattle.text.specs.Decimals.{spaced as spaced_text};
-ghost use Rattle.text.specs.Places.{Wrote, place_after};
+ghost use Rattle.text.specs.Places.{appended};
 
-// A text read as a decimal number.
-#[derive(Clone, Copy)]
-pub enum Decimal {
-    Value(u32),
-    Other,
+// A lent buffer, and the place in it where the next text is to stand.
+#[derive(Drop)]
+pub struct Text<'a> {
+    pub out: &'a mut [u8],
+    pub at: usize,
 }
 
-// One byte at a place, and the place after it.
-pub fn byte(out: &mut [u8], at: usize, b: u8) -> usize
-    ensures { Wrote out.old at (b ∷ []) out.new result }
-{
-    if at < out.len() {
-        out[at] = b;
-        at + 1
-    } else {
-        out.len()
-    }
-}
-
-// A place, or the buffer's end where that is nearer.
-fn within(at: usize, room: usize) -> usize
-    ensures { result ≡ place_after room at 0 }
-{
-    if at <= room { at } else { room }
-}
-
-// A text at a place, and the place after it.
-pub fn piece(out: &mut [u8], at: usize, text: &[u8]) -> usize
-    ensures { Wrote out.old at text.now out.new result }
-{
-    let mut place = within(at, out.len());
-    let mut i = 0;
-    while i < text.len() {
-        place = byte(out, place, text[i]);
-        i += 1;
-    }
-    place
-}
-
-// A number's digits at a place, at most `more` before the last, and the place after them.
-fn digits(out: &mut [u8], at: usize, more: usize, n: usize) -> usize
-    ensures { Wrote out.old at (digits_in more n) out.new result }
-{
-    let last = 48 + (n % 10) as u8;
-    if more == 0 {
-        return byte(out, at, last);
-    }
-    if n < 10 {
-        return byte(out, at, last);
-    }
-    let place = digits(out, at, more - 1, n / 10);
-    byte(out, place, last)
-}
-
-// A number in decimal at a place, and the place after it.
-pub fn number(out: &mut [u8], at: usize, n: usize) -> usize
-    ensures { Wrote out.old at (decimal n) out.new result }
-{
-    digits(out, at, 19, n)
-}
-
-fn wide(word: u32) -> usize
-    ensures { result ≡ word }
-{
-    word as usize
-}
-
-// A space and a number in decimal, and the place after them.
-pub fn after_space(out: &mut [u8], at: usize, n: usize) -> usize
-    ensures { Wrote out.old at (spaced_text (n ∷ [])) out.new result }
-{
-    let place = byte(out, at, b' ');
-    number(out, place, n)
-}
-
-// Words in decimal at a place, one space before each, and the place after them.
-pub fn spaced(out: &mut [u8], at: usize, words: &[u32]) -> usize
-    ensures { Wrote out.old at (spaced_text words.now) out.new result }
-{
-    let mut place = within(at, out.len());
-    let mut i = 0;
-    while i < words.len() {
-        place = after_space(out, place, wide(words[i]));
-        i += 1;
-    }
-    place
-}
-
-// The number that a text of one to ten digits stands for, where it is a 32-bit word.
-pub fn value(text: &[u8]) -> Decimal
-    ensures { decimal_of result ≡ value_of text.now }
-{
-    if text.len() == 0 {
-        return Decimal::Other;
-    }
-    if 10 < text.len() {
-        return Decimal::Other;
-    }
-    let mut n: usize = 0;
-    let mut i = 0;
-    while i < text.len() {
-        let b = text[i];
-        if b < 48 {
-            return Decimal::Other;
+impl Text<'_> {
+    // One byte.
+    pub fn byte(&mut self, b: u8)
+        ensures { self.new ≡ appended self.old (b ∷ []) }
+    {
+        if self.at < self.out.len() {
+            self.out[self.at] = b;
+            self.at += 1;
+        } else {
+            self.at = self.out.len();
         }
-        if 57 < b {
-            return Decimal::Other;
-        }
-        n = 10 * n + (b % 48) as usize;
-        if 4294967295 < n {
-            return Decimal::Other;
-        }
-        i += 1;
     }
-    let word = n as u32;
-    Decimal::Value(word)
+
+    // No text: a place past the buffer's end becomes its end.
+    fn nothing(&mut self)
+        ensures { self.new ≡ appended self.old [] }
+    {
+        self.at = self.at.min(self.out.len());
+    }
+
+    // The bytes of a text.
+    pub fn piece(&mut self, text: &[u8])
+        ensures { self.new ≡ appended self.old text.now }
+    {
+        self.nothing();
+        for b in text {
+            self.byte(*b);
+        }
+    }
+
+    // A number's digits, at most `more` before the last. By hand, since `write!` promises a text only where it answers Ok.
+    fn digits(&mut self, more: usize, n: usize)
+        ensures { self.new ≡ appended self.old (digits_in more n) }
+    {
+        if 0 < more && 10 <= n {
+            self.digits(more - 1, n / 10);
+        }
+        self.byte(b'0' + (n % 10) as u8);
+    }
+
+    // A number in decimal.
+    pub fn number(&mut self, n: usize)
+        ensures { self.new ≡ appended self.old (decimal n) }
+    {
+        self.digits(19, n);
+    }
+
+    // A space and a number in decimal.
+    pub fn after_space(&mut self, n: usize)
+        ensures { self.new ≡ appended self.old (spaced_text (n ∷ [])) }
+    {
+        self.byte(b' ');
+        self.number(n);
+    }
+
+    // Words in decimal, one space before each.
+    pub fn spaced(&mut self, words: &[u32])
+        ensures { self.new ≡ appended self.old (spaced_text words.now) }
+    {
+        self.nothing();
+        for word in words {
+            self.after_space(*word as usize);
+        }
+    }
+}
+
+// The number that a text of one to ten digits stands for, where it is a 32-bit word. `parse` would take a sign, and more digits.
+pub fn value(text: &[u8]) -> Option<u32>
+    ensures { result ≡ value_of text.now }
+{
+    let 1..=10 = text.len() else {
+        return None;
+    };
+    let mut n: u32 = 0;
+    for &b in text {
+        let b'0'..=b'9' = b else {
+            return None;
+        };
+        n = n.checked_mul(10)?.checked_add(u32::from(b - b'0'))?;
+    }
+    Some(n)
 }

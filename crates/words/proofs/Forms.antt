@@ -12,7 +12,8 @@ use lib.Seq.{drop-cons}
 use lib.Dec.{eqb, ltb}
 use borrow.Author.Tests.{lt-ltb, le-ltb, eq-eqb, ltb-true, ltb-false}
 use Rattle.words.specs.Answer.{Answer, given}
-use Rattle.words.specs.Number.{Reading, reading, byte_at, carry, groups, number_at, shortest, number_of}
+use Rattle.words.specs.declared.Reading.{Reading}
+use Rattle.words.specs.Number.{reading, byte_at, carry, groups, number_at, shortest, number_of}
 use Rattle.words.proofs.Ways.{inside_of}
 use Rattle.words.proofs.Answers.{Of, of_given, of_refused, of_demand, of_cond, when_given, both, Any}
 use Rattle.words.proofs.Numbers.{Groups, Malformed, groups_law}

@@ -1,5 +1,6 @@
 -- Laws that every crate above uses.
 pub mod Puts
+pub mod Reasons
 pub mod Arms
 pub mod Ways
 pub mod Answers

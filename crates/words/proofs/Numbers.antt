@@ -12,9 +12,11 @@ use lib.Seq.{get_or-take}
 use lib.Dec.{eqb, ltb}
 use borrow.Author.Tests.{ltb-true, eqb-true}
 use Rattle.words.specs.Answer.{Answer, given, refused}
-use Rattle.words.specs.Number.{Reading, reading, byte_at, carry, groups, number_at, reading_of}
-use Rattle.words.specs.declared.Number.{Number}
-use Rattle.words.specs.declared.Number.TheVariants.{Value}
+use Rattle.std.specs.Prelude.{Result, Ok}
+use Rattle.words.specs.Refusals.{answer_of}
+use Rattle.words.specs.Number.{byte_at, carry, groups, number_at}
+use Rattle.words.specs.declared.Reading.{Reading}
+use Rattle.words.specs.declared.refusals.Refusal.{Refusal}
 use Rattle.words.proofs.Ways.{inside_of}
 use Rattle.words.proofs.Answers.{Of, of_given, of_refused, of_demand, of_cond, of_map, when_given, when_refused, both, either}
 
@@ -121,10 +123,10 @@ unfolding number_at byte_at
 number_take cut bytes at h = groups-same (take cut bytes) bytes at 4 at (λ i l. get_or-take cut bytes i 256 (omega arith))
 
 -- the groups after the first leave room for one more in a word
-pub groups_room : (bytes : List ℕ) (place more at v next : ℕ) (n : Number) → more ≤ 4 → (more ≡ 0 → ⊥) → n ≡ Value v next →
-    reading_of n ≡ groups bytes place (more - 1) (at + 1) → v < 2 ^ 25
-groups_room bytes place more at v next n few some e h =
-    let g : groups bytes place (more - 1) (at + 1) ≡ reading v next = sym h ∙ ap reading_of e in
+pub groups_room : (bytes : List ℕ) (place more at : ℕ) (r : Reading) (n : Result Reading Refusal) → more ≤ 4 → (more ≡ 0 → ⊥) → n ≡ Ok r →
+    answer_of n ≡ groups bytes place (more - 1) (at + 1) → r.value < 2 ^ 25
+groups_room bytes place more at r n few some e h =
+    let g : groups bytes place (more - 1) (at + 1) ≡ given r = sym h ∙ ap answer_of e in
     let three : more - 1 ≤ 3 = omega arith in
     let p : 128 ^ (more - 1) ≤ 128 ^ 3 = pow-le-pow_right (omega arith) three in
     omega (arith, (when_given g (groups_law bytes place (more - 1) (at + 1))).small)

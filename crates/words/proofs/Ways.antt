@@ -13,13 +13,19 @@ use lib.ListN.{length, get_or, get_or-eq_default}
 use lib.Dec.{eqb, ltb}
 use borrow.Author.Tests.{lt-ltb, le-ltb}
 use Rattle.words.specs.Answer.{Answer, refused, demand}
-use Rattle.words.specs.Number.{Reading, reading, byte_at, carry, groups}
+use Rattle.words.specs.declared.Reading.{Reading}
+use Rattle.words.specs.Number.{reading, byte_at, carry, groups}
 
 -- below the length the default does not matter
-pub get_d_default : (l : List ℕ) (i d e : ℕ) → i < length l → get_or l i d ≡ get_or l i e
-get_d_default [] i d e h = absurd (not-suc-le-zero h)
-get_d_default (x ∷ l) zero d e h = refl
-get_d_default (x ∷ l) (suc i) d e h = get_d_default l i d e (le_of_suc-le-suc h)
+any_default : (l : List ℕ) (i d e : ℕ) → i < length l → get_or l i d ≡ get_or l i e
+any_default [] i d e h = absurd (not-suc-le-zero h)
+any_default (x ∷ l) zero d e h = refl
+any_default (x ∷ l) (suc i) d e h = any_default l i d e (le_of_suc-le-suc h)
+
+-- a byte that is there
+pub byte_there : (bytes : List ℕ) (at : ℕ) → at < length bytes → get_or bytes at 0 ≡ byte_at bytes at
+unfolding byte_at
+byte_there bytes at h = any_default bytes at 0 256 h
 
 -- a byte lies before the end
 pub inside_of : (bytes : List ℕ) (at b : ℕ) → b ≡ byte_at bytes at → b < 256 → at < length bytes
@@ -30,13 +36,13 @@ inside_of bytes at b e h = by (dec_lt at (length bytes))
     by (yes l) = l
     by (no l) = let d : get_or bytes at 256 ≡ 256 = get_or-eq_default bytes 256 (omega arith) in absurd (omega arith)
 
-module _ (bytes : List ℕ) (place at b : ℕ) (e : b ≡ byte_at bytes at) where
-  -- the bytes end before the number does
-  pub groups_cut : (more : ℕ) → 255 < b → refused 1 place ≡ groups bytes place more at
-  unfolding groups
-  groups_cut zero h = rw (← e, le-ltb b 256 h)
-  groups_cut (suc more) h = rw (← e, le-ltb b 256 h)
+-- the bytes end before the number does
+pub groups_cut : (bytes : List ℕ) (place more at : ℕ) → length bytes ≤ at → refused 1 place ≡ groups bytes place more at
+unfolding groups byte_at
+groups_cut bytes place zero at h = rw (get_or-eq_default bytes 256 h)
+groups_cut bytes place (suc more) at h = rw (get_or-eq_default bytes 256 h)
 
+module _ (bytes : List ℕ) (place at b : ℕ) (e : b ≡ byte_at bytes at) where
   -- a fifth byte
   pub groups_fifth : (more : ℕ) (answer : Answer Reading) → b ≤ 255 → more ≡ 0 →
       answer ≡ demand (ltb 0 b && ltb b 16) 2 place (reading b (at + 1)) → answer ≡ groups bytes place more at

@@ -2,25 +2,15 @@
 -- Assumes nothing.
 use Rattle.std.specs.Prelude.{ℕ, zero, suc, ◌+◌, ◌*◌, ◌/◌, ◌%◌, cond, ◌||◌, ◌&&◌, List, [], ◌∷◌, get_or, eqb, ltb}
 use Rattle.words.specs.Answer.{Answer, given, refused, demand}
-use Rattle.words.specs.declared.Number.{Number}
-use Rattle.words.specs.declared.Number.TheVariants.{Value, Refused}
+use Rattle.words.specs.declared.Reading.{Reading}
 
 -- the byte at a position; past the end 256, which no byte is
 unfoldable pub byte_at : List ℕ → ℕ → ℕ
 byte_at bytes at = get_or bytes at 256
 
 -- a number's value, and the position after it
-pub record Reading : Type 0 where
-  pub value : ℕ
-  pub next : ℕ
-
 abbrev pub reading : ℕ → ℕ → Answer Reading
 reading v n = given (record { value = v; next = n })
-
--- document 01's number and values for each case of a read number
-abbrev pub reading_of : Number → Answer Reading
-reading_of (Value v n) = reading v n
-reading_of (Refused number place) = refused number place
 
 -- a group before the groups that follow it
 abbrev pub carry : ℕ → Answer Reading → Answer Reading

@@ -1,4 +1,5 @@
 // The entry points that a program in another language compares and times. Each hands out one number of the answer at a call.
+// R, N and entry stay three numbers, and a fault a flag and a place: so C hands them over.
 #![tactic(auto)]
 
 mod parts; // parts.rt: the numbers of an answer
@@ -8,9 +9,11 @@ ghost use Rattle.graph.specs.Checks.{runnable_check, source_check};
 ghost use Rattle.file.specs.Reading.{read_answer, read_table};
 ghost use Rattle.file.specs.Writing.{write_answer, write_output};
 ghost use Rattle.harden.specs.Hardened.{harden_answer, harden_output};
-ghost use Rattle.bench.specs.Runs.{answer_of, run_answer, run_events};
+ghost use Rattle.bench.specs.Runs.{answered, run_answer, run_events};
 ghost use Rattle.bench.specs.Campaigns.{campaign_answer, campaign_first, campaign_second};
 ghost use Rattle.yardstick.specs.Parts.{check_numbers, size_numbers, graph_numbers, run_numbers, score_numbers, fault_of};
+
+use graph::Header;
 
 // Reading a file: a number of the answer.
 pub fn yardstick_read(bytes: &[u8], table: &mut [u32], part: usize) -> usize
@@ -18,8 +21,7 @@ pub fn yardstick_read(bytes: &[u8], table: &mut [u32], part: usize) -> usize
     ensures table_after { table.new ≡ read_table bytes.now table.old }
 {
     let answer = file::read(bytes, table);
-    let numbers = parts::read_numbers(answer);
-    parts::number_of(&numbers, part)
+    parts::part_of(answer.map(parts::graph_values), part)
 }
 
 // Writing a file: a number of the answer.
@@ -34,9 +36,13 @@ pub fn yardstick_write(
     ensures value { result ≡ get_or (size_numbers (write_answer registers nodes entry table.now (length out.old))) part 0 }
     ensures out_after { out.new ≡ write_output registers nodes entry table.now out.old }
 {
-    let answer = file::write(registers, nodes, entry, table, out);
-    let numbers = parts::write_numbers(answer);
-    parts::number_of(&numbers, part)
+    let header = Header {
+        registers,
+        nodes,
+        entry,
+    };
+    let answer = file::write(header, table, out);
+    parts::part_of(answer.map(parts::size_values), part)
 }
 
 // The check of a runnable graph: a number of the answer.
@@ -49,9 +55,13 @@ pub fn yardstick_check_runnable(
 ) -> usize
     ensures { result ≡ get_or (check_numbers (runnable_check registers nodes entry table.now)) part 0 }
 {
-    let answer = graph::check_runnable(registers, nodes, entry, table);
-    let numbers = parts::check_numbers(answer);
-    parts::number_of(&numbers, part)
+    let header = Header {
+        registers,
+        nodes,
+        entry,
+    };
+    let answer = graph::check_runnable(header, table);
+    parts::part_of(answer.map(|_| []), part)
 }
 
 // The check of a source graph: a number of the answer.
@@ -64,9 +74,13 @@ pub fn yardstick_check_source(
 ) -> usize
     ensures { result ≡ get_or (check_numbers (source_check registers nodes entry table.now)) part 0 }
 {
-    let answer = graph::check_source(registers, nodes, entry, table);
-    let numbers = parts::check_numbers(answer);
-    parts::number_of(&numbers, part)
+    let header = Header {
+        registers,
+        nodes,
+        entry,
+    };
+    let answer = graph::check_source(header, table);
+    parts::part_of(answer.map(|_| []), part)
 }
 
 // Hardening: a number of the answer.
@@ -81,9 +95,13 @@ pub fn yardstick_harden(
     ensures value { result ≡ get_or (graph_numbers (harden_answer registers nodes entry table.now (length out.old))) part 0 }
     ensures out_after { out.new ≡ harden_output registers nodes entry table.now out.old }
 {
-    let answer = harden::harden(registers, nodes, entry, table, out);
-    let numbers = parts::harden_numbers(answer);
-    parts::number_of(&numbers, part)
+    let header = Header {
+        registers,
+        nodes,
+        entry,
+    };
+    let answer = harden::harden(header, table, out);
+    parts::part_of(answer.map(parts::graph_values), part)
 }
 
 // A run, undisturbed or with the branch at a place inverted: a number of the answer.
@@ -99,13 +117,18 @@ pub fn yardstick_run(
     place: usize,
     part: usize,
 ) -> usize
-    ensures value { result ≡ get_or (run_numbers (answer_of (run_answer registers nodes entry table.now inputs.now (length events.old) budget (fault_of inverted place)))) part 0 }
+    ensures value { result ≡ get_or
+        (run_numbers (answered (run_answer registers nodes entry table.now inputs.now (length events.old) budget (fault_of inverted place))))
+        part 0 }
     ensures events_after { events.new ≡ run_events registers nodes entry table.now inputs.now events.old budget (fault_of inverted place) }
 {
+    let header = Header {
+        registers,
+        nodes,
+        entry,
+    };
     let fault = parts::fault(inverted, place);
-    let answer = bench::run(
-        registers, nodes, entry, table, inputs, events, budget, fault,
-    );
+    let answer = bench::run(header, table, inputs, events, budget, fault);
     parts::run_part(answer, part)
 }
 
@@ -121,13 +144,17 @@ pub fn yardstick_campaign(
     budget: usize,
     part: usize,
 ) -> usize
-    ensures value { result ≡ get_or (score_numbers (campaign_answer registers nodes entry table.now inputs.now (length first.old) (length second.old) budget)) part 0 }
+    ensures value { result ≡ get_or
+        (score_numbers (campaign_answer registers nodes entry table.now inputs.now (length first.old) (length second.old) budget))
+        part 0 }
     ensures first_after { first.new ≡ campaign_first registers nodes entry table.now inputs.now first.old second.old budget }
     ensures second_after { second.new ≡ campaign_second registers nodes entry table.now inputs.now first.old second.old budget }
 {
-    let answer = bench::campaign(
-        registers, nodes, entry, table, inputs, first, second, budget,
-    );
-    let numbers = parts::campaign_numbers(answer);
-    parts::number_of(&numbers, part)
+    let header = Header {
+        registers,
+        nodes,
+        entry,
+    };
+    let answer = bench::campaign(header, table, inputs, first, second, budget);
+    parts::part_of(answer.map(parts::score_values), part)
 }

@@ -1,25 +1,85 @@
 // The numbers of an answer, in the order that the specs set out.
 ghost use Rattle.std.specs.Prelude.{◌≡◌, get_or};
-ghost use Rattle.graph.specs.Checks.{check_of};
-ghost use Rattle.file.specs.Reading.{read_of};
-ghost use Rattle.file.specs.Writing.{writing_of};
-ghost use Rattle.harden.specs.Hardened.{hardening_of};
-ghost use Rattle.bench.specs.Campaigns.{campaign_of};
-ghost use Rattle.yardstick.specs.Parts.{check_numbers, size_numbers, graph_numbers, outcome_numbers, verdict_numbers, state_numbers, run_numbers, score_numbers, fault_of};
+ghost use Rattle.words.specs.Refusals.{answer_of};
+ghost use Rattle.yardstick.specs.Parts.{answer_numbers, size_values, graph_values, score_values, front_values, run_numbers, fault_of};
 
-use bench::{CampaignAnswer, Fault, Outcome, RunAnswer, Verdict};
-use graph::Check;
-use harden::Hardening;
+use bench::{Fault, Outcome, RunAnswer, Score};
+use graph::Header;
+use words::Refusal;
+
+// A number of an answer: the refusal's number and place, then those of the value.
+pub fn part_of<const N: usize>(answer: Result<[usize; N], Refusal>, part: usize) -> usize
+    ensures { result ≡ get_or (answer_numbers N (λ values. values) (answer_of answer.entry)) part 0 }
+{
+    match answer {
+        Ok(_) if part < 2 => 0,
+        Ok(values) => number_at(&values, part - 2),
+        Err(refusal) => number_at(&[refusal.reason.number() as usize, refusal.place], part),
+    }
+}
 
 // The number at an index, 0 past the end.
-pub fn number_of(numbers: &[usize], part: usize) -> usize
+fn number_at(numbers: &[usize], part: usize) -> usize
     ensures { result ≡ get_or numbers.now part 0 }
 {
-    if part < numbers.len() {
-        numbers[part]
-    } else {
-        0
+    numbers.get(part).copied().unwrap_or(0)
+}
+
+pub fn size_values(size: usize) -> [usize; 1]
+    ensures { result ≡ size_values size }
+{
+    [size]
+}
+
+pub fn graph_values(header: Header) -> [usize; 3]
+    ensures { result ≡ graph_values header }
+{
+    [header.registers, header.nodes, header.entry]
+}
+
+pub fn score_values(score: Score) -> [usize; 6]
+    ensures { result ≡ score_values score }
+{
+    [
+        score.positions,
+        score.caught,
+        score.late,
+        score.harmless,
+        score.changed,
+        score.unended,
+    ]
+}
+
+// A number of a run's answer. The registers stand last, and are looked up one by one.
+pub fn run_part(answer: Result<RunAnswer, Refusal>, part: usize) -> usize
+    ensures { result ≡ get_or (run_numbers (answer_of answer)) part 0 }
+{
+    match answer {
+        Ok(run) if part < 9 => part_of(Ok(front_values(run)), part),
+        Ok(run) => words::word(&run.state.registers, part - 9) as usize,
+        Err(refusal) => part_of::<71>(Err(refusal), part),
     }
+}
+
+// How a run ended, by number, and what it counted: C takes numbers alone.
+fn front_values(run: RunAnswer) -> [usize; 7]
+    ensures { result ≡ front_values run }
+{
+    let (outcome, value) = match run.outcome {
+        Outcome::Returned(value) => (1, value as usize),
+        Outcome::Caught => (2, 0),
+        Outcome::Spent => (3, 0),
+        Outcome::Full => (4, 0),
+    };
+    [
+        outcome,
+        value,
+        run.state.node,
+        run.state.steps,
+        run.state.branches,
+        run.state.reads,
+        run.events,
+    ]
 }
 
 // The fault that a flag and a place stand for.
@@ -30,116 +90,5 @@ pub fn fault(inverted: bool, place: usize) -> Fault
         Fault::Inverted(place)
     } else {
         Fault::Undisturbed
-    }
-}
-
-// The numbers of a check's answer.
-pub fn check_numbers(answer: Check) -> [usize; 2]
-    ensures { result ≡ check_numbers (check_of answer) }
-{
-    match answer {
-        Check::Accepted => [0, 0],
-        Check::Refused(number, place) => [number as usize, place],
-    }
-}
-
-// The numbers of the reader's answer.
-pub fn read_numbers(answer: file::Verdict) -> [usize; 5]
-    ensures { result ≡ graph_numbers (read_of answer) }
-{
-    match answer {
-        file::Verdict::Graph(h) => [0, 0, h.registers, h.nodes, h.entry],
-        file::Verdict::Refused(number, place) => [number as usize, place, 0, 0, 0],
-    }
-}
-
-// The numbers of the writer's answer.
-pub fn write_numbers(answer: file::Writing) -> [usize; 3]
-    ensures { result ≡ size_numbers (writing_of answer) }
-{
-    match answer {
-        file::Writing::Written(size) => [0, 0, size],
-        file::Writing::Refused(number, place) => [number as usize, place, 0],
-    }
-}
-
-// The numbers of the hardener's answer.
-pub fn harden_numbers(answer: Hardening) -> [usize; 5]
-    ensures { result ≡ graph_numbers (hardening_of answer) }
-{
-    match answer {
-        Hardening::Hardened(h) => [0, 0, h.registers, h.nodes, h.entry],
-        Hardening::Refused(number, place) => [number as usize, place, 0, 0, 0],
-    }
-}
-
-// The numbers of a campaign's answer.
-pub fn campaign_numbers(answer: CampaignAnswer) -> [usize; 8]
-    ensures { result ≡ score_numbers (campaign_of answer) }
-{
-    match answer {
-        CampaignAnswer::Scored(s) => [
-            0,
-            0,
-            s.positions,
-            s.caught,
-            s.late,
-            s.harmless,
-            s.changed,
-            s.unended,
-        ],
-        CampaignAnswer::Refused(number, place) => [number as usize, place, 0, 0, 0, 0, 0, 0],
-    }
-}
-
-// A number of a run's answer.
-pub fn run_part(answer: RunAnswer, part: usize) -> usize
-    ensures { result ≡ get_or (run_numbers answer) part 0 }
-{
-    if part < 4 {
-        let verdict = answer.verdict;
-        let numbers = verdict_numbers(verdict);
-        number_of(&numbers, part)
-    } else {
-        state_part(answer, part - 4)
-    }
-}
-
-fn verdict_numbers(verdict: Verdict) -> [usize; 4]
-    ensures { result ≡ verdict_numbers verdict }
-{
-    match verdict {
-        Verdict::Ran(outcome) => outcome_numbers(outcome),
-        Verdict::Refused(number, place) => [number as usize, place, 0, 0],
-    }
-}
-
-fn outcome_numbers(outcome: Outcome) -> [usize; 4]
-    ensures { result ≡ outcome_numbers outcome }
-{
-    match outcome {
-        Outcome::Returned(value) => [0, 0, 1, value as usize],
-        Outcome::Caught => [0, 0, 2, 0],
-        Outcome::Spent => [0, 0, 3, 0],
-        Outcome::Full => [0, 0, 4, 0],
-    }
-}
-
-// A number of what stands behind the verdict: the node and the counts, then the registers.
-fn state_part(answer: RunAnswer, part: usize) -> usize
-    ensures { result ≡ get_or (state_numbers answer) part 0 }
-{
-    if part < 5 {
-        let numbers = [
-            answer.state.node,
-            answer.state.steps,
-            answer.state.branches,
-            answer.state.reads,
-            answer.events,
-        ];
-        number_of(&numbers, part)
-    } else {
-        let registers = answer.state.registers;
-        words::word(&registers, part - 5) as usize
     }
 }

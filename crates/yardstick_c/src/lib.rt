@@ -6,7 +6,7 @@ ghost use Rattle.graph.specs.Checks.{runnable_check, source_check};
 ghost use Rattle.file.specs.Reading.{read_answer, read_table};
 ghost use Rattle.file.specs.Writing.{write_answer, write_output};
 ghost use Rattle.harden.specs.Hardened.{harden_answer, harden_output};
-ghost use Rattle.bench.specs.Runs.{answer_of, run_answer, run_events};
+ghost use Rattle.bench.specs.Runs.{answered, run_answer, run_events};
 ghost use Rattle.bench.specs.Campaigns.{campaign_answer, campaign_first, campaign_second};
 ghost use Rattle.yardstick.specs.Parts.{check_numbers, size_numbers, graph_numbers, run_numbers, score_numbers, fault_of};
 
@@ -93,7 +93,9 @@ pub extern "C" fn yardstick_run(
     place: usize,
     part: usize,
 ) -> usize
-    ensures value { result ≡ get_or (run_numbers (answer_of (run_answer registers nodes entry table.now inputs.now (length events.old) budget (fault_of inverted place)))) part 0 }
+    ensures value { result ≡ get_or
+        (run_numbers (answered (run_answer registers nodes entry table.now inputs.now (length events.old) budget (fault_of inverted place))))
+        part 0 }
     ensures events_after { events.new ≡ run_events registers nodes entry table.now inputs.now events.old budget (fault_of inverted place) }
 {
     yardstick::yardstick_run(
@@ -114,7 +116,9 @@ pub extern "C" fn yardstick_campaign(
     budget: usize,
     part: usize,
 ) -> usize
-    ensures value { result ≡ get_or (score_numbers (campaign_answer registers nodes entry table.now inputs.now (length first.old) (length second.old) budget)) part 0 }
+    ensures value { result ≡ get_or
+        (score_numbers (campaign_answer registers nodes entry table.now inputs.now (length first.old) (length second.old) budget))
+        part 0 }
     ensures first_after { first.new ≡ campaign_first registers nodes entry table.now inputs.now first.old second.old budget }
     ensures second_after { second.new ≡ campaign_second registers nodes entry table.now inputs.now first.old second.old budget }
 {

@@ -1,9 +1,10 @@
--- The cells filled so far, one less than the next argument's number, lie within the buffer.
-use Rattle.std.proofs.Common.{◌-◌, ◌≤◌, ◌≡◌, length, ◌+◌, ◌*◌}
+-- The cells filled so far and those still to come lie within the buffer.
+use Rattle.std.proofs.Common.{◌≤◌, ◌≡◌, length, ◌+◌}
+use Rattle.std.specs.Iterator.Adapters.{enumerate_source}
+use Rattle.std.specs.Slice.Iter.{chunks_exact_mut_rest, chunks_exact_mut_size}
 use Rattle.console.proofs.arguments.Given as goal
 
 abbrev pub invariant-loop-i : goal.invariant-loop-i
-invariant-loop-i l = (l.at + 16 ≡ 16 * l.i) × (l.at ≤ length l.cells)
-
-abbrev pub decreases-loop-i : goal.decreases-loop-i
-decreases-loop-i l = l.count - l.i
+invariant-loop-i l =
+    (chunks_exact_mut_size (enumerate_source l.i-iterator) ≡ 16)
+    × (l.used + length (chunks_exact_mut_rest (enumerate_source l.i-iterator)) ≤ length l.fn.cells)

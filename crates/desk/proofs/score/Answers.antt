@@ -1,12 +1,16 @@
--- `desk::score` meets its contract. Assumes nothing.
-use mathlib.Core.Path.{sym}
-use Rattle.desk.specs.Programs.{score_program, complained}
+-- `desk::score` meets its contract.
+-- Assumes nothing.
+use Rattle.std.proofs.Common.{refl, arith}
+use Rattle.text.specs.Places.{appended}
+use Rattle.desk.specs.Programs.{score_program}
+use Rattle.desk.proofs.Shows.{output_shown, complaint_shown}
 use Rattle.desk.proofs.score.Goals as goal
 
-pub returns-in-Ready : goal.returns-in-Ready
-unfolding score_program
-returns-in-Ready c = rw (sym c.settings.ensures.value, c.in-Ready.is) c.score_words.ensures
+pub returns-in-Ok : goal.returns-in-Ok
+unfolding score_program appended
+returns-in-Ok c =
+    rw c.in-Ok.ensures (output_shown _ _ _ _ c.score-in-Ok.new.out refl refl c.score-in-Ok.ensures (grind arith))
 
-pub returns-in-Wrong : goal.returns-in-Wrong
-unfolding score_program
-returns-in-Wrong c = rw (sym c.settings.ensures.value, c.in-Wrong.is) (complained c.complaint.ensures)
+pub returns-in-Err : goal.returns-in-Err
+unfolding score_program appended
+returns-in-Err c = rw c.in-Err.ensures (complaint_shown _ _ _ _ c.complaint.new.out refl refl c.complaint.ensures (grind arith))

@@ -1,11 +1,14 @@
--- `harden` meets its contract: the source's checks come first, then room, then the table is written. Assumes nothing.
-use mathlib.Core.Path.{sym, ap, ◌∙◌}
-use Rattle.graph.specs.Checks.{check_of}
-use Rattle.harden.proofs.Answers.{refused_first, accepted_then}
+-- `harden` meets its contract: what the source's checks establish is what an accepted source keeps. Assumes nothing.
+use mathlib.Core.Path.{sym}
+use Rattle.graph.proofs.Facts.{source_facts}
 use Rattle.harden.proofs.harden.Goals as goal
 
-pub returns-in-Refused : goal.returns-in-Refused
-returns-in-Refused c = refused_first _ _ _ _ _ (sym (ap check_of c.in-Refused.is) ∙ c.check_source.ensures)
-
-pub returns-in-Accepted : goal.returns-in-Accepted
-returns-in-Accepted c = accepted_then _ _ _ _ _ (sym c.check_source.ensures ∙ ap check_of c.in-Accepted.is) c.harden.ensures.0 c.harden.ensures.1
+pub invariant_of-accepted : goal.invariant_of-accepted
+invariant_of-accepted c =
+    let facts = source_facts _ _ _ _ (sym c.in_ok-check_source.ensures) in
+    record {
+      accepted = sym c.in_ok-check_source.ensures;
+      few_nodes = facts.few_nodes;
+      few_registers = facts.few_registers;
+      entry_in = facts.entry_in;
+    }

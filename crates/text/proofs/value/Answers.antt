@@ -1,38 +1,44 @@
--- `text::value` meets its contract. The loop's invariant: the number of the whole text is that of the bytes left, after those
--- passed. Assumes nothing.
-use mathlib.Core.Path.{sym, ◌∙◌}
-use native.Mathlib.Omega.{arith}
-use borrow.Author.Rules.{rules}
-use Rattle.text.proofs.Decimals.{value_low, value_high, value_large, value_more, value_whole, value_empty, value_long, value_start}
+-- `text::value` meets its contract.
+-- Assumes nothing.
+use Rattle.std.proofs.Common.{◌∙◌, sym, arith, inl, inr}
+use Rattle.text.proofs.Decimals.{value_other, value_large, value_more, value_whole, value_none, value_start}
 use Rattle.text.proofs.value.Goals as goal
 
-pub returns-then-text-eq0 : goal.returns-then-text-eq0
-returns-then-text-eq0 c = value_empty c.args.text.now c.if-text-eq0.true
+pub returns-in_default : goal.returns-in_default
+returns-in_default c = value_none c.args.text.now (inl (omega arith))
 
-pub returns-then-text-gt10 : goal.returns-then-text-gt10
-returns-then-text-gt10 c = value_long c.args.text.now c.if-text-gt10.true
+pub returns-in_default-2 : goal.returns-in_default-2
+returns-in_default-2 c = value_none c.args.text.now (inr (omega arith))
 
-pub loop-i-init : goal.loop-i-init
-loop-i-init c = (search rules, search rules, value_start c.args.text.now c.if-text-eq0.false c.if-text-gt10.false)
+pub loop-b-init : goal.loop-b-init
+loop-b-init c = value_start c.args.text.now (omega arith) (omega arith)
 
-pub returns-then-b-lt48 : goal.returns-then-b-lt48
-returns-then-b-lt48 c = value_low _ _ _ c.loop-i-test.true c.if-b-lt48.true ∙ sym c.loop-i.invariant.2
+pub returns-in_default-b : goal.returns-in_default-b
+returns-in_default-b c =
+    value_other c.args.text.now c.loop-b.n c.loop-b.b-index c.loop-b-test.true (inl (omega arith)) ∙ sym c.loop-b.invariant
 
-pub returns-then-b-gt57 : goal.returns-then-b-gt57
-returns-then-b-gt57 c = value_high _ _ _ c.loop-i-test.true c.if-b-lt48.false c.if-b-gt57.true ∙ sym c.loop-i.invariant.2
+pub returns-in_default-b-2 : goal.returns-in_default-b-2
+returns-in_default-b-2 c =
+    value_other c.args.text.now c.loop-b.n c.loop-b.b-index c.loop-b-test.true (inr (omega arith)) ∙ sym c.loop-b.invariant
 
-pub returns-then-n-gt4294967295 : goal.returns-then-n-gt4294967295
-returns-then-n-gt4294967295 c =
-    value_large _ _ _ c.loop-i-test.true c.if-b-lt48.false c.if-b-gt57.false c.if-n-gt4294967295.true
-    ∙ sym c.loop-i.invariant.2
+pub returns-in_err-checked_mul : goal.returns-in_err-checked_mul
+returns-in_err-checked_mul c =
+    let large = value_large c.args.text.now c.loop-b.n c.loop-b.b-index c.loop-b-test.true in
+    c.from_residual.ensures
+    ∙ large (omega arith) (omega arith) (omega (arith, c.in_err-checked_mul.ensures)) ∙ sym c.loop-b.invariant
 
-pub loop-i-preserved : goal.loop-i-preserved
-loop-i-preserved c = (
-  omega arith,
-  c.if-n-gt4294967295.false,
-  c.loop-i.invariant.2
-      ∙ value_more _ _ _ c.loop-i-test.true c.if-b-lt48.false c.if-b-gt57.false c.if-n-gt4294967295.false,
-)
+pub returns-in_err-n : goal.returns-in_err-n
+returns-in_err-n c =
+    let large = value_large c.args.text.now c.loop-b.n c.loop-b.b-index c.loop-b-test.true in
+    c.from_residual-in_err-n.ensures
+    ∙ large (omega arith) (omega arith) (omega (arith, c.in_ok-checked_mul.ensures, c.in_err-n.ensures)) ∙ sym c.loop-b.invariant
+
+pub loop-b-preserved : goal.loop-b-preserved
+loop-b-preserved c =
+    let more = value_more c.args.text.now c.loop-b.n c.loop-b.b-index c.loop-b-test.true c.in_ok-n.n in
+    let ten = c.in_ok-checked_mul.ensures in
+    let sum = c.in_ok-n.ensures in
+    c.loop-b.invariant ∙ more (omega arith) (omega arith) (omega (arith, ten, sum)) (omega (arith, ten, sum))
 
 pub returns : goal.returns
-returns c = value_whole _ _ _ c.loop-i-test.false ∙ sym c.loop-i.invariant.2
+returns c = value_whole c.args.text.now c.loop-b.n c.loop-b.b-index (omega arith) ∙ sym c.loop-b.invariant

@@ -1,19 +1,36 @@
 -- `file::passes::check` meets its contract, way by way. Assumes nothing.
-use Rattle.file.proofs.Verdicts.{registers_refused, nodes_refused, no_room, in_room}
+use mathlib.Core.Path.{◌∙◌}
+use borrow.Author.Tests.{le-leb, lt-leb}
+use Rattle.file.specs.Reading.{contents_of}
+use Rattle.file.proofs.Thens.{left_as}
 use Rattle.file.proofs.passes.check.Goals as goal
 
-pub returns-in_default : goal.returns-in_default
-returns-in_default c = registers_refused _ _ _ c.runnable-limits.ensures _ _ c.in_default.is c.count-registers.ensures
+pub returns-in_err-registers : goal.returns-in_err-registers
+unfolding contents_of
+returns-in_err-registers c =
+    left_as _ _ c.from_residual.ensures.1 ∙ rw (← rw c.runnable-limits.ensures at c.in_err-registers.ensures)
 
-pub returns-in_default-nodes : goal.returns-in_default-nodes
-returns-in_default-nodes c =
-    nodes_refused _ _ _ c.runnable-limits.ensures _ _ c.in-Value.is c.count-registers.ensures _ _ c.in_default-nodes.is c.count-nodes.ensures
+pub returns-in_err-nodes : goal.returns-in_err-nodes
+unfolding contents_of
+returns-in_err-nodes c =
+    left_as _ _ c.from_residual-in_err-nodes.ensures.1
+    ∙ rw (← (rw c.runnable-limits.ensures at c.in_ok-registers.ensures), ← (rw c.runnable-limits.ensures at c.in_err-nodes.ensures))
 
 pub returns-then-room-words : goal.returns-then-room-words
+unfolding contents_of
 returns-then-room-words c =
-    no_room _ _ _ c.runnable-limits.ensures _ _ c.in-Value.is c.count-registers.ensures _ _ c.in-Value-nodes.is c.count-nodes.ensures c.if-room-words.true
+    rw (
+      c.at.ensures,
+      ← (rw c.runnable-limits.ensures at c.in_ok-registers.ensures),
+      ← (rw c.runnable-limits.ensures at c.in_ok-nodes.ensures),
+      lt-leb _ _ c.if-room-words.true,
+    )
 
 pub returns : goal.returns
+unfolding contents_of
 returns c =
-    in_room _ _ _ c.runnable-limits.ensures _ _ c.in-Value.is c.count-registers.ensures _ _ c.in-Value-nodes.is c.count-nodes.ensures
-    c.if-room-words.false c.check_body.ensures
+    rw (
+      ← (rw c.runnable-limits.ensures at c.in_ok-registers.ensures),
+      ← (rw c.runnable-limits.ensures at c.in_ok-nodes.ensures),
+      le-leb _ _ c.if-room-words.false,
+    ) (rw c.runnable-limits.ensures at c.check_body.ensures)

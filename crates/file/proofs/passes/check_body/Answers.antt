@@ -1,18 +1,25 @@
 -- `file::passes::check_body` meets its contract, way by way. Assumes nothing.
-use Rattle.file.specs.Reading.{body_of}
-use Rattle.file.proofs.Verdicts.{passed_refused, body_refused, body_over, body_done}
+use mathlib.Core.Path.{◌≡◌, ◌∙◌}
+use borrow.Author.Tests.{le-leb, lt-leb}
+use Rattle.words.specs.Refusals.{answer_of}
+use Rattle.graph.specs.declared.Role.TheVariants.{Target}
+use Rattle.file.specs.Reading.{field_at}
+use Rattle.file.proofs.Thens.{left_as}
+use Rattle.file.proofs.Passing.{body_passed}
 use Rattle.file.proofs.passes.check_body.Goals as goal
 
-pub returns-in_default : goal.returns-in_default
-unfolding body_of
-returns-in_default c = passed_refused _ c.in_default.is c.field-entry.ensures
+pub returns-in_err-entry : goal.returns-in_err-entry
+returns-in_err-entry c =
+    let entry : answer_of c.field.result ≡ field_at c.args.bytes.now c.args.limits Target c.args.at = c.field.ensures in
+    left_as _ _ c.from_residual.ensures.1 ∙ rw (body_passed, ← (rw c.in_err-entry.was at entry))
 
-pub returns-in_default-end : goal.returns-in_default-end
-returns-in_default-end c = body_refused _ _ _ _ _ _ c.in-Value.is c.field-entry.ensures c.check_cells-end.ensures _ _ c.in_default-end.is
+pub returns-in_err-next : goal.returns-in_err-next
+returns-in_err-next c =
+    left_as _ _ c.from_residual-in_err-next.ensures.1 ∙ rw (body_passed, ← c.in_ok-entry.ensures, ← c.in_err-next.ensures)
 
 pub returns-then-next-bytes : goal.returns-then-next-bytes
 returns-then-next-bytes c =
-    body_over _ _ _ _ _ _ c.in-Value.is c.field-entry.ensures c.check_cells-end.ensures _ _ c.in-Value-end.is c.if-next-bytes.true
+    rw (c.at.ensures, body_passed, ← c.in_ok-entry.ensures, ← c.in_ok-next.ensures, lt-leb _ _ c.if-next-bytes.true)
 
 pub returns : goal.returns
-returns c = body_done _ _ _ _ _ _ c.in-Value.is c.field-entry.ensures c.check_cells-end.ensures _ _ c.in-Value-end.is c.if-next-bytes.false
+returns c = rw (body_passed, ← c.in_ok-entry.ensures, ← c.in_ok-next.ensures, le-leb _ _ c.if-next-bytes.false)

@@ -3,7 +3,8 @@ use mathlib.Core.Path.{sym}
 use native.Mathlib.Omega.{arith}
 use lib.Seq.{length-take-le}
 use Rattle.graph.proofs.Facts.{runnable_facts, runnable_room}
-use Rattle.file.proofs.Writes.{file_size, file_bytes}
+use Rattle.words.proofs.Shortest.{number_short}
+use Rattle.file.proofs.Writes.{header_short, file_put}
 use Rattle.file.proofs.walk.put_file.Goals as goal
 
 pub overflow_cast-registers : goal.overflow_cast-registers
@@ -15,19 +16,35 @@ overflow_cast-nodes c = omega (arith, (runnable_facts _ _ _ _ c.requires).few_no
 pub overflow_cast-entry : goal.overflow_cast-entry
 overflow_cast-entry c = let g = runnable_facts _ _ _ _ c.requires in omega (arith, g.few_nodes, g.entry_in)
 
-pub overflow_mul-count : goal.overflow_mul-count
-overflow_mul-count c = omega (arith, (runnable_facts _ _ _ _ c.requires).few_nodes)
+pub overflow_mul-nodes : goal.overflow_mul-nodes
+overflow_mul-nodes c = omega (arith, (runnable_facts _ _ _ _ c.requires).few_nodes)
 
-pub slice_bounds-put_cells-end : goal.slice_bounds-put_cells-end
-slice_bounds-put_cells-end c = sym (length-take-le _ _ (runnable_room _ _ _ _ c.requires))
+pub slice_bounds-put_nodes-end : goal.slice_bounds-put_nodes-end
+slice_bounds-put_nodes-end c = sym (length-take-le _ _ (runnable_room _ _ _ _ c.requires))
 
-pub put_cells-requires : goal.put_cells-requires
-put_cells-requires c =
+pub overflow_add-at_entry : goal.overflow_add-at_entry
+overflow_add-at_entry c =
+    let registers = number_short c.args.header.registers in
+    omega (arith, c.put_number-at_nodes.ensures.value, c.put_number.ensures.value, registers, number_short c.args.header.nodes)
+
+pub overflow_add-first : goal.overflow_add-first
+overflow_add-first c =
+    omega (arith, header_short _ _ _ _ _ _ c.put_number-at_nodes.ensures.value c.put_number.ensures.value c.put_number-2.ensures.value)
+
+pub put_nodes-requires : goal.put_nodes-requires
+put_nodes-requires c =
     let few = (runnable_facts _ _ _ _ c.requires).few_nodes in
-    (c.put_header-first.ensures.upper_bound, rw (length-take-le _ _ (runnable_room _ _ _ _ c.requires)) (omega (arith, few)))
+    let count = length-take-le _ _ (runnable_room _ _ _ _ c.requires) in (
+      header_short _ _ _ _ _ _ c.put_number-at_nodes.ensures.value c.put_number.ensures.value c.put_number-2.ensures.value,
+      rw count (omega (arith, few)),
+      rw count (omega arith),
+    )
 
 pub returns : goal.returns
-returns c = record {
-  value = file_size _ _ _ _ _ c.put_header-first.ensures.value _ c.put_cells.ensures.value;
-  out_after = file_bytes _ _ _ _ _ c.put_header-first.ensures.value _ _ _ c.put_header-first.ensures.out_after c.put_cells.ensures.out_after;
-}
+returns c =
+    let file = file_put _ _ _ _ _ _
+    c.put_number-at_nodes.ensures.value c.put_number.ensures.value c.put_number-2.ensures.value
+    c.args.table.now _ _ _ _
+    c.put_number-at_nodes.ensures.out_after c.put_number.ensures.out_after c.put_number-2.ensures.out_after
+    _ _ c.put_nodes.ensures.value c.put_nodes.ensures.out_after in
+    record { value = file.0; out_after = file.1 }

@@ -1,11 +1,9 @@
--- `signing::head` meets its contract. The invariant: the head from the start is the head from here with the steps left, which
--- are the measure. Assumes nothing.
+-- `signing::head` meets its contract. The invariant: the head from the start is the head from here with the steps left.
+-- Assumes nothing.
+use Prim.Native.Nat.{◌-◌}
 use mathlib.Core.Path.{◌≡◌}
 use Rattle.harden.specs.Passes.{head_by}
 use Rattle.harden.proofs.signing.head.Given as goal
 
-abbrev pub invariant-loop-left : goal.invariant-loop-left
-invariant-loop-left l = head_by l.grades l.preceders l.steps l.n ≡ head_by l.grades l.preceders l.left l.at
-
-abbrev pub decreases-loop-left : goal.decreases-loop-left
-decreases-loop-left l = l.left
+abbrev pub invariant-loop : goal.invariant-loop
+invariant-loop l = head_by l.grades l.preceders l.steps l.n ≡ head_by l.grades l.preceders (l.steps - l.counter) l.at
