@@ -127,7 +127,7 @@ module _ (h : Header) (table inputs first second : List ℕ) (budget : ℕ) wher
   abbrev answer : Answer Score
   answer = campaign_answer h.registers h.nodes h.entry table inputs (length first) (length second) budget
 
-  abbrev Campaigns : Answer Score → List ℕ → List ℕ → Type 0
+  abbrev pub Campaigns : Answer Score → List ℕ → List ℕ → Type 0
   Campaigns a last cleared =
       (a ≡ answer)
       × ((last ≡ campaign_first h.registers h.nodes h.entry table inputs first second budget)

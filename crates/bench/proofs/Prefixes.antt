@@ -8,7 +8,7 @@ use Rattle.std.specs.Cmp.Lexicographic.{pointwise}
 use Rattle.bench.specs.Campaigns.{prefix_of, same}
 
 -- from where both agree
-prefix_from : (n : ℕ) (xs ys : List ℕ) → n ≤ length xs → n ≤ length ys → take n xs ≡ take n ys
+pub prefix_from : (n : ℕ) (xs ys : List ℕ) → n ≤ length xs → n ≤ length ys → take n xs ≡ take n ys
     → prefix_of xs ys ≡ prefix_of (drop n xs) (drop n ys)
 prefix_from zero xs ys h i e = refl
 prefix_from (suc n) [] ys h i e = absurd (omega arith)

@@ -10,7 +10,7 @@ use Rattle.bench.specs.Words.{compare}
 use Rattle.bench.specs.Steps.{Status, going, ended, Progress, at, start, flip}
 use Rattle.bench.specs.Effects.{comparand, effect_of, effect_from, event_words, has_room, status_of, status_after, words_after, with_event, outcome_of, applied, machine_of, Takes}
 use Rattle.bench.specs.Runs.{next, run_of, settled}
-use Rattle.bench.specs.Ready.{effect_in, Ends, Standing, setting_of, first_point}
+use Rattle.bench.specs.Ready.{effect_in, Ends, Ready, Standing, setting_of, first_point}
 use Rattle.bench.proofs.Bounds.{Counts, counts}
 use Rattle.bench.proofs.Effects.{followed, step_effect}
 use Rattle.bench.proofs.Rounds.{after_none, after_more, next_going, ended_stays}
@@ -47,6 +47,22 @@ module _ (registers inputs : List ℕ) (reads self : ℕ) (flips : Bool) (nodes 
       (i.1, either_in (flip flips (compare c (get_or registers a 0) (comparand registers b))) nodes then else i.3 i.4)
   named (ret a) i = (i, h)
   named stop i = (omega arith, h)
+
+-- a state that a run can be in, under any fault, of which the step knows whether it inverts a branch here
+module _ (r : Runner) (state : State) (flips : Bool) (e : Effect) where
+  pub small : Ready r state → e ≡ effect_in r state flips → Small r.header.nodes e
+  small ready eq =
+      let node = node_at r.table.now state.node in
+      let i = ready.node in
+      let n = named state.registers r.inputs.now state.reads state.node flips r.header.nodes i node (node_in r state.node i) in
+      rw eq
+      (record { register = n.0; next = n.1; counts = counts state.registers r.inputs.now state.reads state.node flips node })
+
+  -- it is followed by another
+  pub ready_applied : Ready r state → state.steps < r.budget → e ≡ effect_in r state flips → Ready r (applied state e)
+  ready_applied ready below eq =
+      let n = small ready eq in
+      record { node = n.next; in_budget = omega arith; branches = omega arith; reads = omega arith }
 
 -- the words at the head of a buffer, put there, change nothing
 pub put-take : (l : List ℕ) (n : ℕ) → n ≤ length l → put l 0 (take n l) ≡ l
@@ -113,20 +129,11 @@ module _ (r : Runner) (place : ℕ) (buffer : List ℕ) (point : Point) (held : 
     unfolding effect_from
     effect_is = eq
 
-    pub small : Small r.header.nodes e
-    small =
-        let node = node_at r.table.now state.node in
-        let flips = eqb place state.branches in
-        let i = x.reached.ready.node in
-        let n = named state.registers r.inputs.now state.reads state.node flips r.header.nodes i node (node_in r state.node i) in
-        rw eq
-        (record { register = n.0; next = n.1; counts = counts state.registers r.inputs.now state.reads state.node flips node })
-
     module _ (below : state.steps < r.budget) where
       pub takes : r.budget < 2 ^ 64 → Takes state e
       takes h =
-          let n = small in
           let ready = x.reached.ready in
+          let n = small r state (eqb place state.branches) e ready eq in
           record { register = n.register; steps = omega arith; branches = omega arith; reads = omega arith }
 
       round : run (state.steps + 1) ≡ followed r.room state events e
@@ -179,11 +186,9 @@ module _ (r : Runner) (place : ℕ) (buffer : List ℕ) (point : Point) (held : 
         -- the run goes on
         pub on : outcome_of e ≡ None → Standing r place buffer (record { state = applied state e; words = words' }) held'
         on none =
-            let n = small in
-            let ready = x.reached.ready in
             record {
               reached = record {
-                ready = record { node = n.next; in_budget = omega arith; branches = omega arith; reads = omega arith };
+                ready = ready_applied r state (eqb place state.branches) e x.reached.ready below eq;
                 events = events';
                 here = made going (sym (ap status_of none));
                 count = count';

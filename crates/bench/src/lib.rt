@@ -17,7 +17,7 @@ use runner::Runner;
 const MOST_STEPS: usize = 100000;
 
 // The machine's state: its registers, the node to execute next, and what has been counted so far.
-#[derive(Clone, Copy, Debug, PartialEq, Eq)]
+#[derive(Clone, Copy, PartialEq, Eq)]
 pub struct State {
     pub registers: [u32; 64],
     pub node: usize,
@@ -27,7 +27,7 @@ pub struct State {
 }
 
 // How a run ends.
-#[derive(Clone, Copy, Debug, PartialEq, Eq)]
+#[derive(Clone, Copy, PartialEq, Eq)]
 pub enum Outcome {
     Returned(u32),
     Caught,
@@ -37,14 +37,14 @@ pub enum Outcome {
 
 // The one branch that goes to its other target, by its place, from 0, among the branches executed. An enum of its own, as document 01 has
 // it.
-#[derive(Clone, Copy, Debug, PartialEq, Eq)]
+#[derive(Clone, Copy, PartialEq, Eq)]
 pub enum Fault {
     Undisturbed,
     Inverted(usize),
 }
 
 // A run's answer: how it ended, beside it the last state and the number of events.
-#[derive(Clone, Copy, Debug, PartialEq, Eq)]
+#[derive(Clone, Copy, PartialEq, Eq)]
 pub struct RunAnswer {
     pub outcome: Outcome,
     pub state: State,
@@ -52,7 +52,7 @@ pub struct RunAnswer {
 }
 
 // The line of the release record: the positions tried, and how many fell into each class.
-#[derive(Clone, Copy, Debug, Default, PartialEq, Eq)]
+#[derive(Clone, Copy, Default, PartialEq, Eq)]
 pub struct Score {
     pub positions: usize,
     pub caught: usize,

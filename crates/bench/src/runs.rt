@@ -76,7 +76,9 @@ impl Runner<'_> {
         End { outcome, last: at }
     }
 
-    // The score of the reference's branches: for each the run with that branch inverted, taken up where it was set aside.
+    // The score of the reference's branches: for each the run with that branch inverted, taken up where it was set aside. A function by
+    // itself in each program: put into a larger one, its counts lie in memory, and a campaign of long runs takes half as long again.
+    #[inline(never)]
     pub(crate) fn score(&self, reference: &Reference, events: &mut [u32], positions: usize) -> Score
         requires room { length events.old ≡ self.now.room }
         requires referred { Referred self.now reference.now positions }

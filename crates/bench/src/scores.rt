@@ -6,7 +6,7 @@ ghost use Rattle.bench.specs.Classes.{Few, class_for};
 use crate::{Outcome, Score};
 
 // What a disturbed run is counted as.
-#[derive(Clone, Copy, Debug, PartialEq, Eq)]
+#[derive(Clone, Copy, PartialEq, Eq)]
 pub enum Class {
     Caught,
     Late,

@@ -7,7 +7,7 @@ ghost use Rattle.bench.specs.Effects.{keeps, sets, branches, applied, Takes, wor
 use crate::{Outcome, Runner, State, operators};
 
 // What follows a step: the run goes on, goes on after an event from a port, or ends.
-#[derive(Clone, Copy, Debug, PartialEq, Eq)]
+#[derive(Clone, Copy, PartialEq, Eq)]
 pub enum Sequel {
     On,
     Event(u32),
@@ -17,7 +17,7 @@ pub enum Sequel {
 
 // What a step does to the machine's state: a register takes a value (often the one it has), and the counts grow, each by 0 or 1. So it is
 // applied without a test.
-#[derive(Clone, Copy, Debug, PartialEq, Eq)]
+#[derive(Clone, Copy, PartialEq, Eq)]
 pub struct Effect {
     pub register: usize,
     pub value: u32,

@@ -1,12 +1,12 @@
 -- The ways through an argument's cell, and through a row of arguments.
 -- Assumes nothing.
-use Rattle.std.proofs.Common.{◌≡◌, ℕ, suc, ◌+◌, ◌-◌, ◌*◌, ◌/◌, ◌≤◌, ◌<◌, refl, Bool, true, false, leb, List, [], length, get_or, take, drop, set, ap, ◌∙◌, arith, add-one, None, Some, Ok, Err}
+use Rattle.std.proofs.Common.{◌≡◌, ℕ, zero, suc, ◌+◌, ◌-◌, ◌*◌, ◌/◌, ◌≤◌, ◌<◌, refl, Bool, true, false, leb, List, [], ◌∷◌, length, length-append, get_or, take, drop, set, ap, ◌∙◌, arith, add-one, None, Some, Ok, Err}
 use Rattle.std.proofs.Math.Nat.{add-sub_cancel_left}
 use Rattle.std.proofs.Math.Bridge.{le_prop}
 use Rattle.std.proofs.lemmas.List.{take_more_set}
 use borrow.Author.Tests.{lt-leb, le-leb, lt-ltb, le-ltb, leb-true, leb-false}
 use Rattle.text.specs.Decimals.{value_of}
-use Rattle.desk.specs.Arguments.{argument, mode_of, most_room, with_room, settings_of, other_from, words_of, words_in}
+use Rattle.desk.specs.Arguments.{argument, mode_of, most_room, with_room, settings_of, other_from, word_of, words_of, words_in}
 use Rattle.desk.specs.declared.settings.Settings.{Settings}
 use Rattle.desk.specs.declared.settings.Wanted.{Wanted}
 
@@ -74,3 +74,11 @@ pub words_more : (cells words : List ℕ) (from k word : ℕ) → k < length wor
 unfolding words_of
 words_more cells words from k word room written some =
     take_more_set words k word room ∙ rw (add-one, written, some)
+
+-- so many arguments, so many words
+pub words_length : (cells : List ℕ) (from k : ℕ) → length (words_of cells from k) ≡ k
+unfolding words_of
+words_length cells from zero = refl
+words_length cells from (suc k) =
+    length-append (words_of cells from k) (word_of (value_of (argument cells (from + k))) ∷ [])
+    ∙ ap (λ (n : ℕ). n + 1) (words_length cells from k) ∙ add-one k

@@ -37,6 +37,7 @@ use Rattle.desk.specs.Arguments.{argument, argument_count, most_room, most_words
 use Rattle.desk.specs.Lines.{refusal_line, outcome_text, counts_text, run_text, score_line, complaint_line}
 use Rattle.desk.specs.Listing.{row_line, row_lines, listing}
 use Rattle.desk.specs.Programs.{table_words, read_graph, harden_graph, graph_in, text_of, list_text, run_on, progress_text, run_print, score_on, score_print, Print, output, complaint, print_for, run_program, score_program, file_in, file_print, file_program, text_bytes, print_of, Shown, printed, complained}
+use Rattle.desk.proofs.Cells.{words_length as count_words}
 
 -- ---- lines
 
@@ -144,7 +145,7 @@ room_by (given tt) true n room h k f is e =
 room_by (given tt) false n room h k f is e = let z : ◌≡◌ {A = ℕ} 0 1 = cc in absurd (omega arith)
 room_by (refused number place) fits n room h k f is e = let z : ◌≡◌ {A = ℕ} 0 1 = cc in absurd (omega arith)
 
-harden_room : (registers nodes entry : ℕ) (table : List ℕ) (room : ℕ) (k : Header) → harden_answer registers nodes entry table room ≡ given k → 6 * k.nodes ≤ room
+pub harden_room : (registers nodes entry : ℕ) (table : List ℕ) (room : ℕ) (k : Header) → harden_answer registers nodes entry table room ≡ given k → 6 * k.nodes ≤ room
 unfolding harden_answer
 harden_room registers nodes entry table room k e =
     room_by (source_check registers nodes entry table) (leb (6 * hardened_count (source_of registers nodes entry table)) room)
@@ -261,6 +262,24 @@ inputs_words cells from =
     by true true word end = arguments_words cells from (argument_count cells - from)
     by true false word end = tt
     by false all word end = tt
+
+-- and there are never more than that
+pub words_few : (cells : List ℕ) (from : ℕ) → IfOk (words_in cells from) (λ words. length words ≤ most_words)
+unfolding words_in
+words_few cells from =
+    let count = argument_count cells in
+    let first = other_from cells (count - from) from in
+    by (leb count (from + most_words)) (leb count first) (Wanted.Word (first + 1)) (Wanted.End (from + most_words + 1)) refl
+  where
+    inputs : List ℕ
+    inputs = words_of cells from (argument_count cells - from)
+
+    by : (few all : Bool) (word end : Wanted) → leb (argument_count cells) (from + most_words) ≡ few
+        → IfOk (cond few (cond all (Ok inputs) (Err word)) (Err end)) (λ words. length words ≤ most_words)
+    by true true word end h =
+        omega (arith, leb-true (argument_count cells) (from + most_words) h, count_words cells from (argument_count cells - from))
+    by true false word end h = tt
+    by false all word end h = tt
 
 then_known : {A B : Type 0} (P : B → Type 0) (asked : Result A Wanted) (next : A → Result B Wanted) → ((a : A) → asked ≡ Ok a → IfOk (next a) P)
     → IfOk (then_asked asked next) P

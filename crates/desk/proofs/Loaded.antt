@@ -11,7 +11,7 @@ use Rattle.desk.specs.declared.settings.Mode.{Mode}
 use Rattle.desk.specs.declared.settings.Mode.TheVariants.{Plain, Hardened}
 use Rattle.desk.specs.Programs.{table_words, read_graph, harden_graph, graph_in}
 
-zeros-length : (table : List ℕ) → table ≡ replicate table_words 0 → length table ≡ table_words
+pub zeros-length : (table : List ℕ) → table ≡ replicate table_words 0 → length table ≡ table_words
 zeros-length table e = ap length e ∙ length-replicate {A = ℕ} table_words 0
 
 -- an answer, with what it left in a table of zeros

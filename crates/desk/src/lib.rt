@@ -14,6 +14,7 @@ ghost use Rattle.desk.specs.Programs.{list_text, run_program, score_program, fil
 
 use graph::Limits;
 use programs::Job;
+pub use settings::{Mode, Settings, Wanted};
 use text::Text;
 
 // The words of the largest graph's table, the most event words, and the most input words.
@@ -24,7 +25,7 @@ const MOST_ROOM: usize = 16384;
 const MOST_WORDS: usize = 4096;
 
 // How much of the text is to be printed, and whether it is the output or a complaint. A Result of two sizes would name neither.
-#[derive(Clone, Copy, Debug, PartialEq, Eq)]
+#[derive(Clone, Copy, PartialEq, Eq)]
 pub enum Printed {
     Output(usize),
     Complaint(usize),

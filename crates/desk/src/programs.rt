@@ -29,7 +29,8 @@ impl Job<'_> {
         ensures value { answer_of result ≡ answered (run_of_job self.now fault (length events.old)) }
         ensures events_after { events.new ≡ written (run_of_job self.now fault (length events.old)) (λ p. over p.machine.events events.old) events.old }
     {
-        let graph = Graph::load(self.bytes, self.settings.mode)?;
+        let mut graph = Graph::none();
+        graph.load(self.bytes, self.settings.mode)?;
         bench::run(
             graph.header,
             &graph.table,
@@ -57,7 +58,8 @@ impl Job<'_> {
         requires { length second.old ≡ length first.old }
         ensures { answer_of result ≡ score_of_job self.now (length first.old) }
     {
-        let graph = Graph::load(self.bytes, self.settings.mode)?;
+        let mut graph = Graph::none();
+        graph.load(self.bytes, self.settings.mode)?;
         bench::campaign(
             graph.header,
             &graph.table,
@@ -86,8 +88,9 @@ impl Job<'_> {
 pub fn list(bytes: &[u8], out: &mut Text)
     ensures { out.new ≡ appended out.old (list_text bytes.now) }
 {
-    match Graph::load(bytes, Mode::Hardened) {
-        Ok(graph) => listing::listing(out, graph.header, &graph.table),
+    let mut graph = Graph::none();
+    match graph.load(bytes, Mode::Hardened) {
+        Ok(()) => listing::listing(out, graph.header, &graph.table),
         Err(refusal) => lines::refusal(out, refusal),
     }
 }
@@ -96,6 +99,7 @@ pub fn list(bytes: &[u8], out: &mut Text)
 pub fn file(bytes: &[u8], mode: Mode, text: &mut [u8]) -> Result<usize, Refusal>
     ensures { Filed text.old (and_then (graph_in mode bytes.now) (file_in (length text.old))) text.new result }
 {
-    let graph = Graph::load(bytes, mode)?;
+    let mut graph = Graph::none();
+    graph.load(bytes, mode)?;
     file::write(graph.header, &graph.table, text)
 }

@@ -5,7 +5,7 @@ ghost use Rattle.desk.specs.declared.TheConstants.{MOST_ROOM};
 use crate::MOST_ROOM;
 
 // The graph as it is read, or hardened first.
-#[derive(Clone, Copy, Debug, PartialEq, Eq)]
+#[derive(Clone, Copy, PartialEq, Eq)]
 pub enum Mode {
     Plain,
     Hardened,
@@ -21,7 +21,7 @@ pub struct Settings {
 }
 
 // What was wanted in the place of an argument; two hold the argument's number, from 1.
-#[derive(Clone, Copy, Debug, PartialEq, Eq)]
+#[derive(Clone, Copy, PartialEq, Eq)]
 pub enum Wanted {
     Mode,
     Budget,

@@ -16,7 +16,7 @@ mod table;
 pub use kinds::{fault, role_at, targets};
 
 // What a word of a node stands for.
-#[derive(Clone, Copy, Debug, PartialEq, Eq)]
+#[derive(Clone, Copy, PartialEq, Eq)]
 pub enum Role {
     Kind,
     Operator,
@@ -29,7 +29,7 @@ pub enum Role {
 }
 
 // Where the edges of a node lead, the first target first.
-#[derive(Clone, Copy, Debug, PartialEq, Eq)]
+#[derive(Clone, Copy, PartialEq, Eq)]
 pub enum Successors {
     None,
     One(usize),
@@ -37,7 +37,7 @@ pub enum Successors {
 }
 
 // How many registers and nodes, and the last kind: at most, of a sort of graphs; or just those of one graph.
-#[derive(Clone, Copy, Debug, PartialEq, Eq)]
+#[derive(Clone, Copy, PartialEq, Eq)]
 pub struct Limits {
     pub registers: usize,
     pub nodes: usize,
@@ -80,7 +80,7 @@ impl Limits {
 }
 
 // A graph's R, N and entry.
-#[derive(Clone, Copy, Debug, PartialEq, Eq)]
+#[derive(Clone, Copy, PartialEq, Eq)]
 pub struct Header {
     pub registers: usize,
     pub nodes: usize,

@@ -21,7 +21,7 @@ extra_of_lem s n (go action next) is = by (crossing s n)
 extra_of_lem s n (ret a) is = rw is
 extra_of_lem s n stop is = rw is
 
-at_most_seven : (crossed : Bool) (node : Node) → extra crossed node ≤ 7
+pub at_most_seven : (crossed : Bool) (node : Node) → extra crossed node ≤ 7
 at_most_seven crossed (branch c a b t f) = omega arith
 at_most_seven true (go action next) = omega arith
 at_most_seven false (go action next) = omega arith

@@ -14,7 +14,6 @@ mod whole; // whole.rt: the whole hardened table
 mod writing; // writing.rt: the six words of a row
 
 use accepted::Accepted;
-use blocks::Blocks;
 use graph::Header;
 use words::Refusal;
 
@@ -29,5 +28,5 @@ pub fn harden(source: Header, table: &[u32], out: &mut [u32]) -> Result<Header, 
         header: source,
         table,
     };
-    Blocks::of(accepted).harden(out)
+    blocks::harden(accepted, out)
 }

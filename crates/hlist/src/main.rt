@@ -15,9 +15,10 @@ fn list(bytes: &[u8], text: &mut [u8]) -> usize
 }
 
 fn main(rt: HostRuntime) -> io::Result<()> {
+    // before the input is read: later, the compiler would clear it twice
+    let mut text = console::text_space();
     let mut file = console::file_space();
     let size = console::read_full(&mut rt.stdin(), &mut file)?;
-    let mut text = console::text_space();
     let end = list(&file[..size], &mut text);
     rt.stdout().write_all(&text[..end])
 }

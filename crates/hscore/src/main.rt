@@ -17,11 +17,12 @@ fn score(cells: &[u8], bytes: &[u8], text: &mut [u8]) -> Printed
 
 // A `main` of its own: one for the three programs would only read and print, and could promise nothing.
 fn main(rt: HostRuntime) -> io::Result<()> {
+    // before the input is read: later, the compiler would clear it twice
+    let mut text = console::text_space();
     let mut cells = console::cell_space();
     let used = console::arguments(&rt, &mut cells);
     let mut file = console::file_space();
     let size = console::read_full(&mut rt.stdin(), &mut file)?;
-    let mut text = console::text_space();
     match score(&cells[..used], &file[..size], &mut text) {
         Printed::Output(end) => rt.stdout().write_all(&text[..end]),
         Printed::Complaint(end) => rt.stderr().write_all(&text[..end]),

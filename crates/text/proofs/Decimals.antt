@@ -28,7 +28,7 @@ digits_more t (suc more) n h k =
     let e : suc more - 1 ≡ more = omega arith in
     rw (e, front-first more n k) (appended_then t (digits_in more (n / 10)) ((48 + n % 10) ∷ []))
 
-spaced-append : (xs ys : List ℕ) → spaced (xs ++ ys) ≡ spaced xs ++ spaced ys
+pub spaced-append : (xs ys : List ℕ) → spaced (xs ++ ys) ≡ spaced xs ++ spaced ys
 unfolding spaced
 spaced-append [] ys = refl
 spaced-append (x ∷ xs) ys =

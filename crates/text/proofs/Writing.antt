@@ -12,7 +12,7 @@ use Rattle.text.specs.Places.{place_after, Wrote, appended}
 use Rattle.text.specs.declared.Text.{Text}
 
 -- the place behind the text, or the buffer's end where that is nearer
-place_min : (room at size : ℕ) → place_after room at size ≡ min (at + size) room
+pub place_min : (room at size : ℕ) → place_after room at size ≡ min (at + size) room
 unfolding place_after
 place_min room at size = grind (arith, nat_tests)
 
@@ -23,7 +23,7 @@ sets_out (w ∷ ws) l i h =
     rw e (sets_out ws l (suc i) (omega arith))
 
 -- nothing is put past the end
-put_out : (l : List ℕ) (i : ℕ) (ws : List ℕ) → length l ≤ i → put l i ws ≡ l
+pub put_out : (l : List ℕ) (i : ℕ) (ws : List ℕ) → length l ≤ i → put l i ws ≡ l
 unfolding put
 put_out l i ws h = sets_out ws l i h
 

@@ -17,7 +17,7 @@ use Rattle.words.specs.declared.Reading.{Reading}
 use Rattle.words.specs.Number.{reading, byte_at, carry, groups}
 
 -- below the length the default does not matter
-any_default : (l : List ℕ) (i d e : ℕ) → i < length l → get_or l i d ≡ get_or l i e
+pub any_default : (l : List ℕ) (i d e : ℕ) → i < length l → get_or l i d ≡ get_or l i e
 any_default [] i d e h = absurd (not-suc-le-zero h)
 any_default (x ∷ l) zero d e h = refl
 any_default (x ∷ l) (suc i) d e h = any_default l i d e (le_of_suc-le-suc h)

@@ -12,7 +12,7 @@ ghost use Rattle.words.specs.Refusals.{answer_of};
 pub use refusals::{Reason, Refusal};
 
 // A number read from bytes, and the position after it.
-#[derive(Clone, Copy, Debug, PartialEq, Eq)]
+#[derive(Clone, Copy, PartialEq, Eq)]
 pub struct Reading {
     pub value: u32,
     pub next: usize,

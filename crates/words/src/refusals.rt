@@ -3,7 +3,7 @@ ghost use Rattle.std.specs.Prelude.{◌≡◌};
 ghost use Rattle.words.specs.Refusals.{number_of};
 
 // What is wrong, by its number in document 01 and, of 15, in document 02, K2.
-#[derive(Clone, Copy, Debug, PartialEq, Eq)]
+#[derive(Clone, Copy, PartialEq, Eq)]
 pub enum Reason {
     Cut = 1,
     NotShortest = 2,
@@ -42,7 +42,7 @@ impl Reason {
 }
 
 // A refusal: what is wrong, and where.
-#[derive(Clone, Copy, Debug, PartialEq, Eq)]
+#[derive(Clone, Copy, PartialEq, Eq)]
 pub struct Refusal {
     pub reason: Reason,
     pub place: usize,

@@ -5,5 +5,5 @@ use Rattle.desk.proofs.programs.file.Goals as goal
 
 pub returns : goal.returns
 returns c =
-    rw (← c.in_ok-graph.ensures)
-    (filed c.in_ok-graph.graph c.args.text.now c.write.new.out c.write.result c.write.ensures.result_value c.write.ensures.out_after)
+    rw (← c.in_ok-load.ensures)
+    (filed c.load.new.self c.args.text.now c.write.new.out c.write.result c.write.ensures.result_value c.write.ensures.out_after)

@@ -10,7 +10,7 @@ use Rattle.desk.proofs.Fits.{hardened_room}
 use Rattle.desk.proofs.programs.list.Goals as goal
 
 pub listing-requires : goal.listing-requires
-listing-requires c = omega (arith, hardened_room c.args.bytes.now c.in-Ok.graph (sym c.in-Ok.ensures))
+listing-requires c = omega (arith, hardened_room c.args.bytes.now c.load.new.self (sym c.in-Ok.ensures))
 
 pub returns-in-Ok : goal.returns-in-Ok
 unfolding list_text

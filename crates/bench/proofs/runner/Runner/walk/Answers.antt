@@ -10,7 +10,7 @@ use Rattle.bench.proofs.runner.Runner.walk.Goals.{After-outcome, then-inverted+t
 before : (c : After-outcome) → c.args.place < c.apply.new.self.branches → Aside c.args.self.now c.args.place c.if-inverted.aside
 before c h =
     let at = c.loop-at.invariant.0 in
-    let few = (small _ _ _ _ _ at _ c.step-effect.ensures).counts.branches in
+    let few = (small _ _ _ _ at.reached.ready c.step-effect.ensures).counts.branches in
     let past : c.args.place < c.loop-at.at.state.branches + c.step-effect.result.branches = rw c.apply.ensures at h in
     elim c.if-inverted.branch [
       | then-inverted+then-effect-eq1 w ↦ rw w.aside-is (aside_set _ _ _ at.reached w.if-inverted.true)

@@ -12,11 +12,11 @@ use Rattle.desk.proofs.programs.Job.run_in.Goals as goal
 pub returns-clause-value : goal.returns-clause-value
 unfolding run_on
 returns-clause-value c =
-    c.run.ensures.value ∙ ap answered (run_loaded c.args.self.now c.in_ok-graph.graph c.in_ok-graph.ensures (length c.args.events.now) c.args.fault)
+    c.run.ensures.value ∙ ap answered (run_loaded c.args.self.now c.load.new.self c.in_ok-load.ensures (length c.args.events.now) c.args.fault)
 
 pub returns-clause-events_after : goal.returns-clause-events_after
 unfolding run_on run_events
 returns-clause-events_after c =
     c.run.ensures.events_after
     ∙ ap (λ (a : Answer Progress). written a (λ p. over p.machine.events c.args.events.now) c.args.events.now)
-    (run_loaded c.args.self.now c.in_ok-graph.graph c.in_ok-graph.ensures (length c.args.events.now) c.args.fault)
+    (run_loaded c.args.self.now c.load.new.self c.in_ok-load.ensures (length c.args.events.now) c.args.fault)

@@ -7,4 +7,4 @@ use Rattle.desk.proofs.programs.Job.score_in.Goals as goal
 
 pub returns : goal.returns
 unfolding score_on
-returns c = rw c.requires at c.campaign.ensures.result_value ∙ score_loaded c.args.self.now c.in_ok-graph.graph c.in_ok-graph.ensures (length c.args.first.now)
+returns c = rw c.requires at c.campaign.ensures.result_value ∙ score_loaded c.args.self.now c.load.new.self c.in_ok-load.ensures (length c.args.first.now)
