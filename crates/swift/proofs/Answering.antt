@@ -13,7 +13,7 @@ use native.Mathlib.Omega.{arith}
 use lib.ListN.{length}
 use lib.Dec.{leb}
 use borrow.Author.Tests.{le-leb, lt-leb}
-use Rattle.words.specs.Answer.{given, refused}
+use Rattle.words.specs.Answer.{Answer, given, refused}
 use Rattle.words.specs.Buffer.{over}
 use Rattle.graph.specs.Nodes.{Node, go, branch, ret, stop, const, op, input, output, node_at}
 use Rattle.graph.specs.Checks.{runnable_check, source_check}
@@ -24,15 +24,16 @@ use Rattle.harden.specs.Hardened.{Source, hardened_table}
 use Rattle.harden.specs.Edges.{Distinct}
 use Rattle.harden.proofs.Runnable.{hardened-runnable}
 use Rattle.bench.specs.Steps.{Machine, Setting, Status, going, ended, Progress, at, start, step, stopped, execute, unless}
+use Rattle.bench.specs.Runs as runs
 use Rattle.bench.specs.Runs.{settled, next_of, next, after, run_of, state_of, most_steps, run_answer, run_events}
 use Rattle.bench.specs.declared.Fault.{Fault}
 use Rattle.bench.specs.declared.Fault.TheVariants.{Undisturbed, Inverted}
 use Rattle.bench.specs.declared.Outcome.{Outcome}
 use Rattle.bench.specs.declared.Outcome.TheVariants.{Returned, Caught, Spent, Full}
+use Rattle.bench.specs.declared.RunAnswer.{RunAnswer}
 use Rattle.bench.specs.declared.State.{State}
 use Rattle.bench.proofs.Rounds.{after_more}
-use Rattle.swift.specs.Demand.Verdict.{Ran}
-use Rattle.swift.specs.Demand.{Report, report_of, Subject, source_in, hardened_header, Run, run_on, run_source, run_hardened}
+use Rattle.swift.specs.Demand.{Subject, source_in, hardened_header, verdict, state, Run, run_on, run_source, run_hardened}
 use Rattle.swift.specs.Demand.{crossings, steps_beside, stopping, SameTraffic, Alike, Executes, soon, CaughtSoon, Answered, Demand3}
 use Rattle.swift.specs.Trials.{Trial, plain, hardened, hardened_graph, source_run, hardened_run}
 use Rattle.swift.specs.Trials.{crossed, hardened_steps, beside, AtBranch, CaughtAfter, Decided}
@@ -93,7 +94,7 @@ module _ (s : Setting) (fault : Fault) where
 
 -- a run after so many rounds, as it is answered and written
 abbrev shown : Subject → Progress → Run
-shown j p = record { answer = report_of (given p); events = over p.machine.events j.events }
+shown j p = record { answer = runs.answered (given p); events = over p.machine.events j.events }
 
 same-shown : (j : Subject) (p q : Progress) → p.machine.reads ≡ q.machine.reads → p.machine.events ≡ q.machine.events
     → SameTraffic (shown j p) (shown j q)
@@ -109,24 +110,24 @@ module _ (j : Subject) (h : Header) (words : List ℕ) (in_order : runnable_chec
   unfolding run_on run_events run_answer
   answer_within few = rw (in_order, le-leb budget most_steps few)
 
-  answer_past : most_steps < budget → (run_on j h words fault budget).answer ≡ report_of (refused 12 0)
+  answer_past : most_steps < budget → (run_on j h words fault budget).answer ≡ refused 12 0
   unfolding run_on run_answer
   answer_past many = rw (in_order, lt-leb budget most_steps many)
 
   -- a budget whose answer is not that refusal is none too large
-  not_past : (P : Report → Type 0) → (P (report_of (refused 12 0)) → ⊥) → P (run_on j h words fault budget).answer → budget ≤ most_steps
+  not_past : (P : Answer RunAnswer → Type 0) → (P (refused 12 0) → ⊥) → P (run_on j h words fault budget).answer → budget ≤ most_steps
   not_past P never p = by (dec_lt most_steps budget)
     where
       by : Dec (most_steps < budget) → budget ≤ most_steps
       by (yes many) = absurd (never (subst P (answer_past many) p))
       by (no few) = omega arith
 
-  few_ran : (o : Outcome) → (run_on j h words fault budget).answer.verdict ≡ Ran o → budget ≤ most_steps
-  few_ran o = not_past (λ a. a.verdict ≡ Ran o) (λ e. let z : ◌≡◌ {A = ℕ} 0 1 = cc in omega arith)
+  few_ran : (o : Outcome) → verdict (run_on j h words fault budget).answer ≡ given o → budget ≤ most_steps
+  few_ran o = not_past (λ a. verdict a ≡ given o) (λ e. let z : ◌≡◌ {A = ℕ} 0 1 = cc in omega arith)
 
-  few_branches : (place : ℕ) → place < (run_on j h words fault budget).answer.state.branches → budget ≤ most_steps
+  few_branches : (place : ℕ) → place < (state (run_on j h words fault budget).answer).branches → budget ≤ most_steps
   unfolding start
-  few_branches place = not_past (λ a. place < a.state.branches) not-suc-le-zero
+  few_branches place = not_past (λ a. place < (state a).branches) not-suc-le-zero
 
 -- the same states give the same crossings
 same-crossings : (source : Source) (f g : ℕ → State) (s : ℕ) → ((k : ℕ) → k ≤ s → f k ≡ g k) → crossings source f s ≡ crossings source g s
@@ -175,17 +176,17 @@ module _ (j : Subject) (behind : List ℕ) (distinct : Distinct j.plan)
       answer_within j (hardened_header j) j.output hardened_in_order fault budget few
       ∙ ap (λ words. shown j (run_of (on words) fault j.header.nodes budget)) leaves
 
-  ran : (fault : Fault) (budget : ℕ) → budget ≤ most_steps → (o : Outcome) × ((run_hardened j fault budget).answer.verdict ≡ Ran o)
-  ran fault budget few = (settled (hardened_run trial fault budget).status, ap (λ r. r.answer.verdict) (hardened_runs fault budget few))
+  ran : (fault : Fault) (budget : ℕ) → budget ≤ most_steps → (o : Outcome) × (verdict (run_hardened j fault budget).answer ≡ given o)
+  ran fault budget few = (settled (hardened_run trial fault budget).status, ap (λ r. verdict r.answer) (hardened_runs fault budget few))
 
   -- ---- undisturbed
 
   steps_named : (s : ℕ) → s ≤ most_steps → steps_beside j s ≡ hardened_steps trial s
   unfolding steps_beside hardened_steps
   steps_named s few =
-      let x : crossings (source_in j) (λ k. (run_source j k).answer.state) s ≡ crossed trial s =
-      same-crossings (source_in j) (λ k. (run_source j k).answer.state) (λ k. state_of (source_run trial k).machine) s
-      (λ k h. ap (λ r. r.answer.state) (source_runs k (omega arith))) in
+      let x : crossings (source_in j) (λ k. state (run_source j k).answer) s ≡ crossed trial s =
+      same-crossings (source_in j) (λ k. state (run_source j k).answer) (λ k. state_of (source_run trial k).machine) s
+      (λ k h. ap (λ r. state r.answer) (source_runs k (omega arith))) in
       rw (x, source_runs s few)
 
   alike : (s budget : ℕ) → s ≤ most_steps → budget ≤ most_steps → hardened_run trial Undisturbed budget ≡ beside trial s → Alike j budget s
@@ -195,32 +196,32 @@ module _ (j : Subject) (behind : List ℕ) (distinct : Distinct j.plan)
       let q : run_source j s ≡ shown j (source_run trial s) = source_runs s few-source in
       record {
         steps = rw h (f.steps ∙ sym (steps_named s few-source));
-        same_verdict = rw (h, q) (ap (λ status. Ran (settled status)) f.alike);
+        same_verdict = rw (h, q) (ap (λ status. given (settled status)) f.alike);
         same_node = rw (h, q) f.agree.same_node;
         same_registers = rw (h, q) f.agree.same_registers;
         same_traffic = rw (h, q) (same-shown j (beside trial s) (source_run trial s) f.agree.same_reads f.agree.same_events);
       }
 
-  under_way : (s : ℕ) → (run_source j s).answer.verdict ≡ Ran Spent → steps_beside j s ≤ most_steps
-      → ((run_source j s).answer.state.steps ≡ s) × Alike j (steps_beside j s) s
+  under_way : (s : ℕ) → verdict (run_source j s).answer ≡ given Spent → steps_beside j s ≤ most_steps
+      → ((state (run_source j s).answer).steps ≡ s) × Alike j (steps_beside j s) s
   unfolding source_run run_of beside start
   under_way s spent few =
       let few-source = few_ran j j.header j.table source_in_order Undisturbed s Spent spent in
       let q = source_runs s few-source in
       let p = source_run trial s in
-      let answered-spent : settled p.status ≡ Spent = cc (ap (λ r. r.answer.verdict) q) in
+      let answered-spent : settled p.status ≡ Spent = cc (rw q at spent) in
       let on : p.status ≡ going = spent_going p.status (unspent (plain trial) Undisturbed j.header.entry s) answered-spent in
       let steps : p.machine.steps ≡ 0 + s = steps_going (plain trial) Undisturbed (start j.header.entry) s on in
       let no_more : steps_beside j s ≡ hardened_steps trial s + stopping (settled p.status) =
       steps_named s few-source ∙ rw on (sym (add-zero (hardened_steps trial s))) in
       (rw q (steps ∙ zero-add s), alike s (steps_beside j s) few-source few (ap (hardened_run trial Undisturbed) no_more))
 
-  ends : (s : ℕ) (o : Outcome) → (run_source j s).answer.verdict ≡ Ran o → (o ≡ Spent → ⊥)
+  ends : (s : ℕ) (o : Outcome) → verdict (run_source j s).answer ≡ given o → (o ≡ Spent → ⊥)
       → (budget : ℕ) → steps_beside j s + stopping o ≤ budget → budget ≤ most_steps → Alike j budget s
   ends s o e other budget enough few =
       let few-source = few_ran j j.header j.table source_in_order Undisturbed s o e in
       let p = source_run trial s in
-      let ending : settled p.status ≡ o = cc (ap (λ r. r.answer.verdict) (source_runs s few-source)) in
+      let ending : settled p.status ≡ o = cc (rw (source_runs s few-source) at e) in
       alike s budget few-source few
       (ends_beside trial ok s budget o (ended_as p.status o ending other) (rw (steps_named s few-source) at enough))
 
@@ -257,7 +258,7 @@ module _ (j : Subject) (behind : List ℕ) (distinct : Distinct j.plan)
       let (on, branching) = counts_branch trial p (omega arith) in
       record { under_way = on; at_branch = branching; this_place = before }
 
-  each_branch : (place budget : ℕ) → place < (run_hardened j Undisturbed budget).answer.state.branches → (n : ℕ) × (n < budget) × Executes j place n
+  each_branch : (place budget : ℕ) → place < (state (run_hardened j Undisturbed budget).answer).branches → (n : ℕ) × (n < budget) × Executes j place n
   each_branch place budget h =
       let few = few_branches j (hardened_header j) j.output hardened_in_order Undisturbed budget place h in
       let (n, below, x) = executes trial place budget (rw (hardened_runs Undisturbed budget few) at h) in
@@ -270,7 +271,7 @@ module _ (j : Subject) (behind : List ℕ) (distinct : Distinct j.plan)
       let d = hardened_runs (Inverted place) budget few in
       let u = hardened_runs Undisturbed n (omega arith) in
       record {
-        is_caught = λ left. rw d (ap (λ status. Ran (settled status)) (caught_stays trial ok c (omega arith) budget left).is_caught);
+        is_caught = λ left. rw d (ap (λ status. given (settled status)) (caught_stays trial ok c (omega arith) budget left).is_caught);
         within = rw d (ended_steps trial (Inverted place) (n + 1 + soon) budget Caught c.is_caught);
         quiet = rw (d, u) (same-shown j (hardened_run trial (Inverted place) budget) (hardened_run trial Undisturbed n)
             (ever.quiet.no_read budget low (omega arith)) (ever.quiet.no_event budget low (omega arith)));

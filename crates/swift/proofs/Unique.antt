@@ -26,6 +26,7 @@ use Rattle.words.proofs.Reasons.{reason_of, reason_back, reason_some}
 use Rattle.graph.specs.Kinds.{number_in}
 use Rattle.graph.specs.Successors.{targets_of}
 use Rattle.graph.specs.declared.Successors.{Successors}
+use Rattle.bench.specs.declared.Score.{Score}
 use Rattle.text.specs.Places.{Wrote}
 use Rattle.desk.specs.Programs.{Print, Shown, printed, complained}
 use Rattle.desk.specs.declared.Printed.{Printed}
@@ -119,6 +120,14 @@ past q = both refl q
 wrote_one : {before text : List ℕ} {at r s : ℕ} {x y : List ℕ} → Wrote before at text x r → Wrote before at text y s → (r ≡ s) × (x ≡ y)
 wrote_one p q = (same p.place_is q.place_is, same p.buffer_is q.buffer_is)
 
+-- what is 0 in each field
+abbrev Empty : Score → Type 0
+Empty s = (s.positions ≡ 0) × ((s.caught ≡ 0) × ((s.late ≡ 0) × ((s.harmless ≡ 0) × ((s.changed ≡ 0) × (s.unended ≡ 0)))))
+
+empty_one : {r s : Score} → Empty r → Empty s → r ≡ s
+empty_one (a, (b, (c, (d, (e, f))))) (a', (b', (c', (d', (e', f'))))) =
+    λ i. record { positions = same a a' i; caught = same b b' i; late = same c c' i; harmless = same d d' i; changed = same e e' i; unended = same f f' i }
+
 -- the output or the complaint of a program
 shown_one : {before x y : List ℕ} {print : Print} {r s : Printed} → Shown before print x r → Shown before print y s → (r ≡ s) × (x ≡ y)
 shown_one (printed p) (printed q) = let (sizes, texts) = wrote_one p q in (ap Printed.Output sizes, texts)
@@ -147,6 +156,15 @@ unique_words_number_at κs a o u p q = both (meant answer_of_injective p q) refl
 pub unique_words_put_number : OneAnswer words_says.put_number.ended words.put_number.Reads.Post
 unique_words_put_number κs a o u p q = both (same p.0 q.0) (both (same p.1 q.1) refl)
 
+pub unique_words_ReadingPartialEq_eq : OneAnswer words_says.ReadingPartialEq.eq.ended words.ReadingPartialEq.eq.Reads.Post
+unique_words_ReadingPartialEq_eq κs a o u p q = both (same p q) refl
+
+pub unique_words_refusals_ReasonPartialEq_eq : OneAnswer words_says.refusals.ReasonPartialEq.eq.ended words.refusals.ReasonPartialEq.eq.Reads.Post
+unique_words_refusals_ReasonPartialEq_eq κs a o u p q = both (same p q) refl
+
+pub unique_words_refusals_RefusalPartialEq_eq : OneAnswer words_says.refusals.RefusalPartialEq.eq.ended words.refusals.RefusalPartialEq.eq.Reads.Post
+unique_words_refusals_RefusalPartialEq_eq κs a o u p q = both (same p q) refl
+
 -- ---- graph
 
 pub unique_graph_Limits_runnable : OneAnswer graph_says.Limits.runnable.ended graph.Limits.runnable.Reads.Post
@@ -170,6 +188,18 @@ unique_graph_check_runnable κs a o u p q = both (meant answer_of_injective p q)
 pub unique_graph_check_source : OneAnswer graph_says.check_source.ended graph.check_source.Reads.Post
 unique_graph_check_source κs a o u p q = both (meant answer_of_injective p q) refl
 
+pub unique_graph_RolePartialEq_eq : OneAnswer graph_says.RolePartialEq.eq.ended graph.RolePartialEq.eq.Reads.Post
+unique_graph_RolePartialEq_eq κs a o u p q = both (same p q) refl
+
+pub unique_graph_SuccessorsPartialEq_eq : OneAnswer graph_says.SuccessorsPartialEq.eq.ended graph.SuccessorsPartialEq.eq.Reads.Post
+unique_graph_SuccessorsPartialEq_eq κs a o u p q = both (same p q) refl
+
+pub unique_graph_LimitsPartialEq_eq : OneAnswer graph_says.LimitsPartialEq.eq.ended graph.LimitsPartialEq.eq.Reads.Post
+unique_graph_LimitsPartialEq_eq κs a o u p q = both (same p q) refl
+
+pub unique_graph_HeaderPartialEq_eq : OneAnswer graph_says.HeaderPartialEq.eq.ended graph.HeaderPartialEq.eq.Reads.Post
+unique_graph_HeaderPartialEq_eq κs a o u p q = both (same p q) refl
+
 -- ---- file
 
 pub unique_file_read : OneAnswer file_says.read.ended file.read.Reads.Post
@@ -183,6 +213,9 @@ unique_file_write κs a o u p q = both (meant answer_of_injective p.0 q.0) (past
 pub unique_harden_harden : OneAnswer harden_says.harden.ended harden.harden.Reads.Post
 unique_harden_harden κs a o u p q = both (meant answer_of_injective p.0 q.0) (past (past (both (same p.1 q.1) refl)))
 
+pub unique_harden_grading_GradePartialEq_eq : OneAnswer harden_says.grading.GradePartialEq.eq.ended harden.grading.GradePartialEq.eq.Reads.Post
+unique_harden_grading_GradePartialEq_eq κs a o u p q = both (same p q) refl
+
 -- ---- bench
 
 pub unique_bench_run : OneAnswer bench_says.run.ended bench.run.Reads.Post
@@ -191,6 +224,33 @@ unique_bench_run κs a o u p q = both (meant answer_of_injective p.0 q.0) (past 
 pub unique_bench_campaign : OneAnswer bench_says.campaign.ended bench.campaign.Reads.Post
 unique_bench_campaign κs a o u p q =
     both (meant answer_of_injective p.0 q.0) (past (past (past (both (same p.1.0 q.1.0) (both (same p.1.1 q.1.1) refl)))))
+
+pub unique_bench_StatePartialEq_eq : OneAnswer bench_says.StatePartialEq.eq.ended bench.StatePartialEq.eq.Reads.Post
+unique_bench_StatePartialEq_eq κs a o u p q = both (same p q) refl
+
+pub unique_bench_OutcomePartialEq_eq : OneAnswer bench_says.OutcomePartialEq.eq.ended bench.OutcomePartialEq.eq.Reads.Post
+unique_bench_OutcomePartialEq_eq κs a o u p q = both (same p q) refl
+
+pub unique_bench_FaultPartialEq_eq : OneAnswer bench_says.FaultPartialEq.eq.ended bench.FaultPartialEq.eq.Reads.Post
+unique_bench_FaultPartialEq_eq κs a o u p q = both (same p q) refl
+
+pub unique_bench_RunAnswerPartialEq_eq : OneAnswer bench_says.RunAnswerPartialEq.eq.ended bench.RunAnswerPartialEq.eq.Reads.Post
+unique_bench_RunAnswerPartialEq_eq κs a o u p q = both (same p q) refl
+
+pub unique_bench_ScorePartialEq_eq : OneAnswer bench_says.ScorePartialEq.eq.ended bench.ScorePartialEq.eq.Reads.Post
+unique_bench_ScorePartialEq_eq κs a o u p q = both (same p q) refl
+
+pub unique_bench_scores_ClassPartialEq_eq : OneAnswer bench_says.scores.ClassPartialEq.eq.ended bench.scores.ClassPartialEq.eq.Reads.Post
+unique_bench_scores_ClassPartialEq_eq κs a o u p q = both (same p q) refl
+
+pub unique_bench_steps_SequelPartialEq_eq : OneAnswer bench_says.steps.SequelPartialEq.eq.ended bench.steps.SequelPartialEq.eq.Reads.Post
+unique_bench_steps_SequelPartialEq_eq κs a o u p q = both (same p q) refl
+
+pub unique_bench_steps_EffectPartialEq_eq : OneAnswer bench_says.steps.EffectPartialEq.eq.ended bench.steps.EffectPartialEq.eq.Reads.Post
+unique_bench_steps_EffectPartialEq_eq κs a o u p q = both (same p q) refl
+
+pub unique_bench_ScoreDefault_default : OneAnswer bench_says.ScoreDefault.default.ended bench.ScoreDefault.default.Reads.Post
+unique_bench_ScoreDefault_default κs a o u p q = both (empty_one p q) refl
 
 -- ---- text
 
@@ -225,6 +285,15 @@ unique_desk_score κs a o u p q = let (prints, texts) = shown_one p q in both pr
 
 pub unique_desk_file : OneAnswer desk_says.file.ended desk.file.Reads.Post
 unique_desk_file κs a o u p q = let (prints, texts) = shown_one p q in both prints (past (past (both texts refl)))
+
+pub unique_desk_PrintedPartialEq_eq : OneAnswer desk_says.PrintedPartialEq.eq.ended desk.PrintedPartialEq.eq.Reads.Post
+unique_desk_PrintedPartialEq_eq κs a o u p q = both (same p q) refl
+
+pub unique_desk_settings_ModePartialEq_eq : OneAnswer desk_says.settings.ModePartialEq.eq.ended desk.settings.ModePartialEq.eq.Reads.Post
+unique_desk_settings_ModePartialEq_eq κs a o u p q = both (same p q) refl
+
+pub unique_desk_settings_WantedPartialEq_eq : OneAnswer desk_says.settings.WantedPartialEq.eq.ended desk.settings.WantedPartialEq.eq.Reads.Post
+unique_desk_settings_WantedPartialEq_eq κs a o u p q = both (same p q) refl
 
 -- ---- console
 

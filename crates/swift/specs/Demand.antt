@@ -7,7 +7,7 @@ use Rattle.graph.specs.Nodes.{branch, Operand, node_at}
 use Rattle.graph.specs.declared.Header.{Header}
 use Rattle.harden.specs.Blocks.{Plan, one_plus_rank}
 use Rattle.harden.specs.Hardened.{Source, crossing, group_at, hardened_count, harden_answer, harden_output}
-use Rattle.bench.specs.Steps.{Progress, start}
+use Rattle.bench.specs.Steps.{start}
 use Rattle.bench.specs.Runs.{answered, most_steps, run_answer, run_events, state_of}
 use Rattle.bench.specs.declared.Fault.{Fault}
 use Rattle.bench.specs.declared.Fault.TheVariants.{Undisturbed, Inverted}
@@ -50,33 +50,29 @@ source_in j =
 abbrev pub hardened_header : Subject → Header
 hardened_header j = record { registers = j.header.registers + 2; nodes = hardened_count (source_in j); entry = j.header.nodes }
 
--- how a run ended, or the refusal's number and place
-pub data Verdict : Type 0 where
-  Ran : Outcome → Verdict
-  Refused : ℕ → ℕ → Verdict
+-- of what `run` answers: how the run ended, or the refusal's number and place
+abbrev pub verdict : Answer RunAnswer → Answer Outcome
+verdict (given a) = given a.outcome
+verdict (refused number place) = refused number place
 
--- what `run` answers; of a refused run, which has no state and no events, zeros stand for both
-pub record Report : Type 0 where
-  pub verdict : Verdict
-  pub state : State
-  pub events : ℕ
+-- the state it gives, and how many events; a refused run has neither, and zeros stand for both
+abbrev pub state : Answer RunAnswer → State
+state (given a) = a.state
+state (refused number place) = state_of (start 0)
 
-abbrev pub reported : Answer RunAnswer → Report
-reported (given a) = record { verdict = Ran a.outcome; state = a.state; events = a.events }
-reported (refused number place) = record { verdict = Refused number place; state = state_of (start 0); events = 0 }
-
-abbrev pub report_of : Answer Progress → Report
-report_of progress = reported (answered progress)
+abbrev pub count : Answer RunAnswer → ℕ
+count (given a) = a.events
+count (refused number place) = 0
 
 -- a run: what `run` answers, and what the event buffer holds then
 pub record Run : Type 0 where
-  pub answer : Report
+  pub answer : Answer RunAnswer
   pub events : List ℕ
 
 -- the run of a graph in a table, from what `run` promises
 unfoldable pub run_on : Subject → Header → List ℕ → Fault → ℕ → Run
 run_on j h words fault budget = record {
-  answer = report_of (run_answer h.registers h.nodes h.entry words j.inputs (length j.events) budget fault);
+  answer = answered (run_answer h.registers h.nodes h.entry words j.inputs (length j.events) budget fault);
   events = run_events h.registers h.nodes h.entry words j.inputs j.events budget fault;
 }
 
@@ -104,8 +100,8 @@ when s b x = 1 + s + 4 * b + 3 * x
 -- the same for the source's run with a budget: s and b are the steps and branches that it answers
 unfoldable pub steps_beside : Subject → ℕ → ℕ
 steps_beside j budget =
-    let state = (run_source j budget).answer.state in
-    when state.steps state.branches (crossings (source_in j) (λ k. (run_source j k).answer.state) budget)
+    let now = state (run_source j budget).answer in
+    when now.steps now.branches (crossings (source_in j) (λ k. state (run_source j k).answer) budget)
 
 -- the budget, past the steps named, in which an outcome is seen: Full stops a run before a step, so it takes one more
 abbrev pub stopping : Outcome → ℕ
@@ -116,26 +112,26 @@ stopping Full = 1
 
 -- the same reads, and the same events: as many of them, and the buffer holds the same
 pub record SameTraffic (r q : Run) : Type 0 where
-  pub same_reads : r.answer.state.reads ≡ q.answer.state.reads
-  pub same_count : r.answer.events ≡ q.answer.events
+  pub same_reads : (state r.answer).reads ≡ (state q.answer).reads
+  pub same_count : count r.answer ≡ count q.answer
   pub same_events : r.events ≡ q.events
 
 -- the hardened run with this budget stands as the source's with budget s, after the steps named, and has ended alike or not at all
 pub record Alike (j : Subject) (budget s : ℕ) : Type 0 where
-  pub steps : (run_hardened j Undisturbed budget).answer.state.steps ≡ steps_beside j s
-  pub same_verdict : (run_hardened j Undisturbed budget).answer.verdict ≡ (run_source j s).answer.verdict
-  pub same_node : (run_hardened j Undisturbed budget).answer.state.node ≡ (run_source j s).answer.state.node
-  pub same_registers : take j.header.registers (run_hardened j Undisturbed budget).answer.state.registers
-      ≡ take j.header.registers (run_source j s).answer.state.registers
+  pub steps : (state (run_hardened j Undisturbed budget).answer).steps ≡ steps_beside j s
+  pub same_verdict : verdict (run_hardened j Undisturbed budget).answer ≡ verdict (run_source j s).answer
+  pub same_node : (state (run_hardened j Undisturbed budget).answer).node ≡ (state (run_source j s).answer).node
+  pub same_registers : take j.header.registers (state (run_hardened j Undisturbed budget).answer).registers
+      ≡ take j.header.registers (state (run_source j s).answer).registers
   pub same_traffic : SameTraffic (run_hardened j Undisturbed budget) (run_source j s)
 
 -- ---- one branch inverted
 
 -- the undisturbed hardened run makes n steps, and the next one executes the branch at this place
 pub record Executes (j : Subject) (place n : ℕ) : Type 0 where
-  pub steps : (run_hardened j Undisturbed n).answer.state.steps ≡ n
-  pub before : (run_hardened j Undisturbed n).answer.state.branches ≡ place
-  pub counted : (run_hardened j Undisturbed (n + 1)).answer.state.branches ≡ place + 1
+  pub steps : (state (run_hardened j Undisturbed n).answer).steps ≡ n
+  pub before : (state (run_hardened j Undisturbed n).answer).branches ≡ place
+  pub counted : (state (run_hardened j Undisturbed (n + 1)).answer).branches ≡ place + 1
 
 -- the further steps, after the inverted one, within which the run is caught; and those after which the excepted run is undisturbed
 abbrev pub soon : ℕ
@@ -147,8 +143,8 @@ rejoined = 2
 -- with the branch after n steps inverted, and a budget: caught if five further steps are left, never more of them made, and no read or
 -- event from the branch on
 pub record CaughtSoon (j : Subject) (place n budget : ℕ) : Type 0 where
-  pub is_caught : n + 1 + soon ≤ budget → (run_hardened j (Inverted place) budget).answer.verdict ≡ Ran Caught
-  pub within : (run_hardened j (Inverted place) budget).answer.state.steps ≤ n + 1 + soon
+  pub is_caught : n + 1 + soon ≤ budget → verdict (run_hardened j (Inverted place) budget).answer ≡ given Caught
+  pub within : (state (run_hardened j (Inverted place) budget).answer).steps ≤ n + 1 + soon
   pub quiet : SameTraffic (run_hardened j (Inverted place) budget) (run_hardened j Undisturbed n)
 
 -- the two nodes of the hardened graph that make a source branch's test
@@ -171,7 +167,7 @@ pub record OneTarget (s : Source) (i : ℕ) : Type 0 where
 
 -- the one exception: the branch after n steps is such a node
 abbrev pub Excepted : Subject → ℕ → Type 0
-Excepted j n = OneTarget (source_in j) (run_hardened j Undisturbed n).answer.state.node
+Excepted j n = OneTarget (source_in j) (state (run_hardened j Undisturbed n).answer).node
 
 -- excepted, and with two further steps left all that is answered and written is as undisturbed; or not excepted, and caught
 abbrev pub Answered : Subject → ℕ → ℕ → ℕ → Type 0
@@ -186,15 +182,15 @@ pub record Demand3 (j : Subject) : Type 0 where
   -- hardening answers R + 2, H and N
   pub hardens : j.answer ≡ given (hardened_header j)
   -- `run` accepts the hardened graph, with every fault and every budget up to the largest
-  pub runs : (fault : Fault) (budget : ℕ) → budget ≤ most_steps → (o : Outcome) × ((run_hardened j fault budget).answer.verdict ≡ Ran o)
+  pub runs : (fault : Fault) (budget : ℕ) → budget ≤ most_steps → (o : Outcome) × (verdict (run_hardened j fault budget).answer ≡ given o)
   -- a source that has not ended within its budget s made s steps; the hardened run with budget 1 + s + 4b + 3x has not ended either
-  pub under_way : (s : ℕ) → (run_source j s).answer.verdict ≡ Ran Spent → steps_beside j s ≤ most_steps
-      → ((run_source j s).answer.state.steps ≡ s) × Alike j (steps_beside j s) s
+  pub under_way : (s : ℕ) → verdict (run_source j s).answer ≡ given Spent → steps_beside j s ≤ most_steps
+      → ((state (run_source j s).answer).steps ≡ s) × Alike j (steps_beside j s) s
   -- a source that has ended; any hardened budget from the steps named on, or for a stop before a step above them
-  pub ended : (s : ℕ) (o : Outcome) → (run_source j s).answer.verdict ≡ Ran o → (o ≡ Spent → ⊥)
+  pub ended : (s : ℕ) (o : Outcome) → verdict (run_source j s).answer ≡ given o → (o ≡ Spent → ⊥)
       → (budget : ℕ) → steps_beside j s + stopping o ≤ budget → budget ≤ most_steps → Alike j budget s
   -- each place below the branches that the undisturbed hardened run answers is executed in one of its steps
-  pub executes : (place budget : ℕ) → place < (run_hardened j Undisturbed budget).answer.state.branches
+  pub executes : (place budget : ℕ) → place < (state (run_hardened j Undisturbed budget).answer).branches
       → (n : ℕ) × (n < budget) × Executes j place n
   -- that branch inverted, with any budget from there on
   pub inverted : (place n : ℕ) → Executes j place n → (budget : ℕ) → n ≤ budget → budget ≤ most_steps → Answered j place n budget
